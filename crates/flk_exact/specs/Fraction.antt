@@ -1,0 +1,30 @@
+-- Fractions: a whole number over a positive one, compared, added and multiplied by cross multiplication.
+use Rattle.std.specs.Prelude.{ℕ, ◌*◌, ◌^◌, ◌<◌, ℤ, pos, ◌+ℤ◌, ◌*ℤ◌, ◌≤ℤ◌}
+use Rattle.std.proofs.Common.{lit<}
+use Rattle.std.proofs.Math.Nat.{mul-pos}
+
+pub record Fraction : Type 0 where
+  pub num : ℤ
+  pub den : ℕ
+  pub positive : 0 < den
+
+infix 50 ◌≤ℚ◌
+infixl 60 ◌+ℚ◌
+infixl 70 ◌*ℚ◌
+-- p is at most q
+pub record ◌≤ℚ◌ (p q : Fraction) : Type 0 where
+  pub cross : (p.num *ℤ pos q.den) ≤ℤ (q.num *ℤ pos p.den)
+
+abbrev pub ◌+ℚ◌ : Fraction → Fraction → Fraction
+p +ℚ q = record { num = p.num *ℤ pos q.den +ℤ q.num *ℤ pos p.den; den = p.den * q.den; positive = mul-pos p.positive q.positive }
+
+abbrev pub ◌*ℚ◌ : Fraction → Fraction → Fraction
+p *ℚ q = record { num = p.num *ℤ q.num; den = p.den * q.den; positive = mul-pos p.positive q.positive }
+
+-- a whole number
+abbrev pub whole : ℤ → Fraction
+whole z = record { num = z; den = 1; positive = lit< tt }
+
+-- so many units, which are 2^-48 each
+abbrev pub units : ℤ → Fraction
+units z = record { num = z; den = 2 ^ 48; positive = lit< tt }

@@ -1,0 +1,2 @@
+pub mod SquareLemmas
+pub mod ScaledLemmas

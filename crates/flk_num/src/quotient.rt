@@ -1,0 +1,127 @@
+//! Quotients, rounded down and up.
+
+ghost use Rattle.std.specs.Prelude.{◌≡◌, ◌+◌, ◌*◌, ◌^◌, ◌<◌, pos, ◌*ℤ◌, ◌≤ℤ◌, ◌<ℤ◌};
+ghost use Rattle.std.specs.Int.RustNames.{unsigned_abs};
+ghost use Rattle.flk_exact.specs.Rounding.{floor_of, ceil_of, IsFloor, IsCeil};
+
+/// `a / b`, rounded down.
+pub fn floor_div(a: i128, b: i128) -> i128
+    requires { pos 0 <ℤ b }
+    ensures value { result ≡ floor_of a b }
+    ensures rounding { IsFloor a b result }
+{
+    a.div_euclid(b)
+}
+
+/// `a / b`, rounded up.
+pub fn ceil_div(a: i128, b: i128) -> i128
+    requires { pos 0 <ℤ b }
+    ensures value { result ≡ ceil_of a b }
+    ensures rounding { IsCeil a b result }
+{
+    let quotient = a.div_euclid(b);
+    if a.rem_euclid(b) == 0 {
+        quotient
+    } else {
+        quotient + 1
+    }
+}
+
+// A whole quotient and what is left.
+#[derive(Clone, Copy)]
+struct Parts {
+    quotient: u128,
+    rest: u128,
+}
+
+const HALF: u128 = 4_294_967_296;
+
+fn divide(m: u128, den: u128) -> Parts
+    requires { 0 < den }
+    ensures parts { result.quotient * den + result.rest ≡ m }
+    ensures rest { result.rest < den }
+{
+    Parts {
+        quotient: m / den,
+        rest: m % den,
+    }
+}
+
+// `m * num / den` by halves of `num`, where `m` is less than `den`: each product fits 128 bits.
+fn divide_small(m: u128, num: u128, den: u128) -> Parts
+    requires m_small { m < den }
+    requires num_small { num < 2 ^ 64 }
+    requires den_small { den < 2 ^ 96 }
+    ensures parts { result.quotient * den + result.rest ≡ m * num }
+    ensures rest { result.rest < den }
+{
+    let halves = divide(num, HALF);
+    let high = divide(m * halves.quotient, den);
+    let shifted = divide(high.rest * HALF, den);
+    let low = divide(m * halves.rest, den);
+    let end = divide(shifted.rest + low.rest, den);
+    Parts {
+        quotient: high.quotient * HALF + shifted.quotient + low.quotient + end.quotient,
+        rest: end.rest,
+    }
+}
+
+// `m * num / den`, whose product may need 190 bits.
+fn divide_product(m: u128, num: u128, den: u128) -> Parts
+    requires num_small { num < 2 ^ 64 }
+    requires den_small { den < 2 ^ 96 }
+    requires quotient_small { m * num < 2 ^ 126 * den }
+    ensures parts { result.quotient * den + result.rest ≡ m * num }
+    ensures rest { result.rest < den }
+    ensures small { result.quotient < 2 ^ 126 }
+{
+    let whole = divide(m, den);
+    let part = divide_small(whole.rest, num, den);
+    Parts {
+        quotient: whole.quotient * num + part.quotient,
+        rest: part.rest,
+    }
+}
+
+fn signed(m: u128) -> i128
+    requires { m < 2 ^ 126 }
+    ensures { result ≡ pos m }
+{
+    m as i128
+}
+
+/// `v * num / den`, rounded down.
+pub fn scaled_floor(v: i128, num: i128, den: i128) -> i128
+    requires v_small { unsigned_abs v < 2 ^ 126 }
+    requires num_low { pos 0 ≤ℤ num }
+    requires num_high { num <ℤ pos (2 ^ 64) }
+    requires den_low { pos 0 <ℤ den }
+    requires den_high { den <ℤ pos (2 ^ 96) }
+    requires result_small { unsigned_abs (floor_of (v *ℤ num) den) < 2 ^ 126 }
+    ensures value { result ≡ floor_of (v *ℤ num) den }
+    ensures rounding { IsFloor (v *ℤ num) den result }
+{
+    let parts = divide_product(v.unsigned_abs(), num.unsigned_abs(), den.unsigned_abs());
+    let quotient = signed(parts.quotient);
+    if 0 <= v {
+        quotient
+    } else if parts.rest == 0 {
+        -quotient
+    } else {
+        -quotient - 1
+    }
+}
+
+/// `v * num / den`, rounded up.
+pub fn scaled_ceil(v: i128, num: i128, den: i128) -> i128
+    requires v_small { unsigned_abs v < 2 ^ 126 }
+    requires num_low { pos 0 ≤ℤ num }
+    requires num_high { num <ℤ pos (2 ^ 64) }
+    requires den_low { pos 0 <ℤ den }
+    requires den_high { den <ℤ pos (2 ^ 96) }
+    requires result_small { unsigned_abs (ceil_of (v *ℤ num) den) < 2 ^ 126 }
+    ensures value { result ≡ ceil_of (v *ℤ num) den }
+    ensures rounding { IsCeil (v *ℤ num) den result }
+{
+    -scaled_floor(-v, num, den)
+}
