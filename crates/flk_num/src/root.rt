@@ -42,7 +42,8 @@ fn word_root(v: u64) -> u64
     root
 }
 
-/// The greatest whole number whose square is at most `v`, for a `v` from 0 to below 2^126.
+/// The root of `v`, rounded down: the greatest whole number whose square is at most `v`, which is from 0 to below 2^126. `v`
+/// is in squares of the result's unit.
 pub fn root_floor(v: i128) -> i128
     requires low { pos 0 ≤ℤ v }
     requires high { v <ℤ pos (2 ^ 126) }
