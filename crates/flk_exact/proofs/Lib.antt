@@ -1,2 +1,9 @@
 pub mod WholeLemmas
 pub mod RoundingLemmas
+pub mod RootLemmas
+pub mod FractionLemmas
+pub mod ListLemmas
+pub mod CutLemmas
+pub mod RunLemmas
+pub mod HalfPeriodLemmas
+pub mod ExtremeLemmas

@@ -1,6 +1,6 @@
 -- What quotients of whole numbers say of products, and that each rounding has one answer.
 use Rattle.std.proofs.Common.{◌≡◌, ℕ, ◌-◌, ◌%◌, ◌<◌, ℤ, pos, neg_ℤ, ◌+ℤ◌, ◌*ℤ◌, ◌≤ℤ◌, ◌<ℤ◌, refl, sym, ap, ◌∙◌, subst, arith}
-use Rattle.std.specs.Prelude.{negsuc}
+use Rattle.std.specs.Prelude.{negsuc, ◌↔◌}
 use Rattle.std.specs.Int.{int_rem_euclid}
 use Rattle.std.proofs.lemmas.Int.{ints, by_lt_z}
 use Rattle.std.proofs.Math.IntN.{neg_ℤ-neg_ℤ}
@@ -80,3 +80,11 @@ pub IsCeil-at : (a b q : ℤ) → pos 0 <ℤ b → q ≡ ceil_of a b → IsCeil 
 IsCeil-at a (pos n) q h e =
     IsCeil-neg a n q (subst (λ (p : ℤ). IsFloor (neg_ℤ a) (pos n) p) (sym (ap neg_ℤ e ∙ neg_ℤ-neg_ℤ (floor_of (neg_ℤ a) (pos n)))) (IsFloor-floor_of (neg_ℤ a) n (omega (arith, ints))))
 IsCeil-at a (negsuc n) q h e = absurd (omega (arith, ints))
+
+-- ---- the function and the bracket are one
+
+pub floor_is_bracket : (a b q : ℤ) → pos 0 <ℤ b → IsFloor a b q ↔ (q ≡ floor_of a b)
+floor_is_bracket a b q h = (floor_of-at a b q h, IsFloor-at a b q h)
+
+pub ceil_is_bracket : (a b q : ℤ) → pos 0 <ℤ b → IsCeil a b q ↔ (q ≡ ceil_of a b)
+ceil_is_bracket a b q h = (ceil_of-at a b q h, IsCeil-at a b q h)

@@ -1,8 +1,9 @@
 -- Laws of whole numbers: products with natural numbers, orders, squares, and each as a difference of two natural numbers.
-use Rattle.std.proofs.Common.{◌≡◌, ℕ, ◌+◌, ◌*◌, ◌<◌, ◌≤◌, ℤ, pos, neg_ℤ, ◌+ℤ◌, ◌*ℤ◌, ◌≤ℤ◌, ◌<ℤ◌, refl, ap, arith}
+use Rattle.std.proofs.Common.{◌≡◌, ℕ, ◌+◌, ◌-◌, ◌*◌, ◌<◌, ◌≤◌, ℤ, pos, neg_ℤ, ◌+ℤ◌, ◌*ℤ◌, ◌≤ℤ◌, ◌<ℤ◌, refl, ap, ⊎_elim, arith}
 use Rattle.std.specs.Prelude.{negsuc}
 use Rattle.std.specs.Int.RustNames.{unsigned_abs}
 use Rattle.std.proofs.Math.Nat.{mul-le-mul_right}
+use Rattle.std.proofs.lemmas.Bool.{cases_lt}
 use Rattle.std.proofs.lemmas.Int.{ints, by_lt_z}
 use borrow.Author.Differences.{up, down, sum_is_lem, product_is, neg_is, le_out, lt_out, same_in, at_most_in, below_in}
 
@@ -47,6 +48,17 @@ positive_is (negsuc n) h = absurd (omega (arith, ints))
 pub natural_is : (z : ℤ) → pos 0 ≤ℤ z → z ≡ pos (unsigned_abs z)
 natural_is (pos n) h = refl
 natural_is (negsuc n) h = absurd (omega (arith, ints))
+
+twice_by : (x k : ℕ) → 2 * (x * (x + k)) ≤ x * x + (x + k) * (x + k)
+twice_by x k = omega arith
+
+-- twice a product is at most the sum of the squares
+pub twice_product : (x y : ℕ) → 2 * (x * y) ≤ x * x + y * y
+twice_product x y =
+    ⊎_elim
+    (λ less. let e : x + (y - x) ≡ y = omega arith in rw e at (twice_by x (y - x)))
+    (λ more. let e : y + (x - y) ≡ x = omega arith in let t = rw e at (twice_by y (x - y)) in omega arith)
+    (cases_lt x y)
 
 -- ---- equations and orders of whole numbers, by those of natural numbers
 

@@ -33,3 +33,12 @@ parts_from s (p ∷ ps) xs = slice_range xs s p ∷ parts_from p ps xs
 -- the half-periods of a list with one item for each sample
 abbrev pub half_periods : {A : Type 0} → List ℕ → List A → List (List A)
 half_periods cuts xs = parts_from 0 cuts xs
+
+-- the last of the cuts, or s where there is none
+abbrev pub last_cut_from : ℕ → List ℕ → ℕ
+last_cut_from s [] = s
+last_cut_from s (p ∷ ps) = last_cut_from p ps
+
+-- where the half-period that is not over begins: at the last of the cuts, or at 0
+abbrev pub last_cut : List ℕ → ℕ
+last_cut cuts = last_cut_from 0 cuts

@@ -1,2 +1,3 @@
 pub mod SquareLemmas
 pub mod ScaledLemmas
+pub mod RootLemmas

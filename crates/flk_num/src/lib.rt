@@ -13,3 +13,6 @@ pub use interval::Interval;
 pub use quotient::{ceil_div, floor_div, scaled_ceil, scaled_floor};
 pub use root::root_floor;
 pub use square::square_out;
+
+#[cfg(test)]
+mod tests;

@@ -1,10 +1,11 @@
-//! Quotients, rounded down and up.
+//! Quotients, rounded down and up. The numbers are in any units: a quotient is in the unit of the dividend over that of the
+//! divisor.
 
 ghost use Rattle.std.specs.Prelude.{◌≡◌, ◌+◌, ◌*◌, ◌^◌, ◌<◌, pos, ◌*ℤ◌, ◌≤ℤ◌, ◌<ℤ◌};
 ghost use Rattle.std.specs.Int.RustNames.{unsigned_abs};
 ghost use Rattle.flk_exact.specs.Rounding.{floor_of, ceil_of, IsFloor, IsCeil};
 
-/// `a / b`, rounded down.
+/// `a / b`, rounded down, for a positive `b`: the greatest whole number that is at most it.
 pub fn floor_div(a: i128, b: i128) -> i128
     requires { pos 0 <ℤ b }
     ensures value { result ≡ floor_of a b }
@@ -13,7 +14,7 @@ pub fn floor_div(a: i128, b: i128) -> i128
     a.div_euclid(b)
 }
 
-/// `a / b`, rounded up.
+/// `a / b`, rounded up, for a positive `b`: the least whole number that is at least it.
 pub fn ceil_div(a: i128, b: i128) -> i128
     requires { pos 0 <ℤ b }
     ensures value { result ≡ ceil_of a b }
@@ -34,8 +35,10 @@ struct Parts {
     rest: u128,
 }
 
+// 2^32: a number below 2^64 has a high and a low half of 32 bits.
 const HALF: u128 = 4_294_967_296;
 
+// `m / den`, and what is left.
 fn divide(m: u128, den: u128) -> Parts
     requires { 0 < den }
     ensures parts { result.quotient * den + result.rest ≡ m }
@@ -83,6 +86,7 @@ fn divide_product(m: u128, num: u128, den: u128) -> Parts
     }
 }
 
+// A size as a signed number.
 fn signed(m: u128) -> i128
     requires { m < 2 ^ 126 }
     ensures { result ≡ pos m }
@@ -90,7 +94,8 @@ fn signed(m: u128) -> i128
     m as i128
 }
 
-/// `v * num / den`, rounded down.
+/// `v * num / den`, rounded down, in the unit of `v`. `v` and the result are below 2^126 in size, `num` is from 0 to below
+/// 2^64, and `den` is positive and below 2^96. The product may need 190 bits.
 pub fn scaled_floor(v: i128, num: i128, den: i128) -> i128
     requires v_small { unsigned_abs v < 2 ^ 126 }
     requires num_low { pos 0 ≤ℤ num }
@@ -112,7 +117,7 @@ pub fn scaled_floor(v: i128, num: i128, den: i128) -> i128
     }
 }
 
-/// `v * num / den`, rounded up.
+/// `v * num / den`, rounded up, in the unit of `v`, with the ranges of [`scaled_floor`].
 pub fn scaled_ceil(v: i128, num: i128, den: i128) -> i128
     requires v_small { unsigned_abs v < 2 ^ 126 }
     requires num_low { pos 0 ≤ℤ num }

@@ -1,13 +1,56 @@
 //! Roots, rounded down.
 
-ghost use Rattle.std.specs.Prelude.{◌^◌, pos, ◌≤ℤ◌, ◌<ℤ◌};
+ghost use Rattle.std.specs.Prelude.{◌+◌, ◌*◌, ◌^◌, ◌<◌, ◌≤◌, pos, ◌≤ℤ◌, ◌<ℤ◌};
 ghost use Rattle.flk_exact.specs.Rounding.{IsRootFloor};
 
-/// The greatest whole number whose square is at most `v`, for a `v` from 0 to below 2^126.
+// A power of two above the root of `v`, and at most about twice as large.
+fn power_above(v: u64) -> u64
+    requires { 0 < v }
+    ensures above { v < result * result }
+    ensures some { 0 < result }
+    ensures small { result ≤ 2 ^ 32 }
+{
+    1 << ((65 - v.leading_zeros()) / 2)
+}
+
+// Newton's step from `x`: the mean of `x` and `v / x`. It is never below the root, and at least `x` only where `x` is not
+// above it.
+fn newton_step(v: u64, x: u64) -> u64
+    requires some { 0 < x }
+    requires small { x ≤ 2 ^ 32 }
+    requires above { v < (x + 1) * (x + 1) }
+    ensures above { v < (result + 1) * (result + 1) }
+    ensures last { x ≤ result → x * x ≤ v }
+{
+    (x + v / x) / 2
+}
+
+// The root of a number of 64 bits, by Newton's method from above.
+fn word_root(v: u64) -> u64
+    ensures within { result * result ≤ v }
+    ensures greatest { v < (result + 1) * (result + 1) }
+{
+    if v == 0 {
+        return 0;
+    }
+    let mut root = power_above(v);
+    let mut next = newton_step(v, root);
+    while next < root {
+        root = next;
+        next = newton_step(v, root);
+    }
+    root
+}
+
+/// The root of `v`, rounded down: the greatest whole number whose square is at most `v`, which is from 0 to below 2^126. `v`
+/// is in squares of the result's unit.
 pub fn root_floor(v: i128) -> i128
     requires low { pos 0 ≤ℤ v }
     requires high { v <ℤ pos (2 ^ 126) }
     ensures { IsRootFloor v result }
 {
-    v.isqrt()
+    match u64::try_from(v) {
+        Ok(word) => i128::from(word_root(word)),
+        Err(_) => v.isqrt(),
+    }
 }

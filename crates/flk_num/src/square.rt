@@ -6,6 +6,7 @@ ghost use Rattle.flk_num.specs.Square.{AreSquares};
 
 use crate::interval::Interval;
 
+// The square of a number below 2^63 in size.
 fn square(x: i128) -> i128
     requires { unsigned_abs x < 2 ^ 63 }
     ensures value { result ≡ x *ℤ x }

@@ -1,0 +1,86 @@
+//! Values that were computed by long arithmetic elsewhere.
+
+use crate::{Interval, ceil_div, floor_div, root_floor, scaled_ceil, scaled_floor, square_out};
+
+#[test]
+fn quotients(rt: HostRuntime) {
+    assert_eq!(rt; floor_div(-7, 2), -4);
+    assert_eq!(rt; ceil_div(-7, 2), -3);
+    // a product of 190 bits
+    let v = 85_070_591_730_234_615_865_843_651_857_942_052_863;
+    let num = 18_446_744_073_709_551_615;
+    let den = 39_614_081_257_132_168_796_771_987_513;
+    assert_eq!(rt;
+        scaled_floor(v, num, den),
+        39_614_081_257_132_168_794_624_479_174
+    );
+    assert_eq!(rt;
+        scaled_ceil(v, num, den),
+        39_614_081_257_132_168_794_624_479_175
+    );
+    // a negative one
+    let v = -42_535_295_865_117_307_932_921_825_929_958_680_753;
+    let num = 15_000_000_000_000_000_019;
+    let den = 1_237_940_039_285_380_274_899_124_221;
+    assert_eq!(rt;
+        scaled_floor(v, num, den),
+        -515_396_075_520_000_000_652_835_030_253
+    );
+    assert_eq!(rt;
+        scaled_ceil(v, num, den),
+        -515_396_075_520_000_000_652_835_030_252
+    );
+    // a whole quotient
+    let v = -7_427_640_235_712_281_649_394_745_344;
+    assert_eq!(rt;
+        scaled_floor(v, 1_073_741_824, 3_298_534_883_328),
+        -2_417_851_639_229_258_349_412_352
+    );
+    assert_eq!(rt;
+        scaled_ceil(v, 1_073_741_824, 3_298_534_883_328),
+        -2_417_851_639_229_258_349_412_352
+    );
+}
+
+#[test]
+fn roots(rt: HostRuntime) {
+    let values = [
+        (0, 0),
+        (1, 1),
+        (3, 1),
+        (4, 2),
+        (999_999_999_999_999_999, 999_999_999),
+        (1_000_000_000_000_000_000, 1_000_000_000),
+        (18_446_744_073_709_551_615, 4_294_967_295),
+        (18_446_744_073_709_551_616, 4_294_967_296),
+        (
+            85_070_591_730_234_615_865_843_651_857_942_052_863,
+            9_223_372_036_854_775_807,
+        ),
+    ];
+    for (v, root) in values {
+        if 0 <= v && v < 85_070_591_730_234_615_865_843_651_857_942_052_864 {
+            assert_eq!(rt; root_floor(v), root, "at {v}");
+        }
+    }
+}
+
+#[test]
+fn squares(rt: HostRuntime) {
+    assert_eq!(rt;
+        square_out(Interval { lo: -3, hi: 2 }),
+        Interval { lo: 0, hi: 9 }
+    );
+    assert_eq!(rt;
+        square_out(Interval { lo: -3, hi: -2 }),
+        Interval { lo: 4, hi: 9 }
+    );
+    let high = 9_223_372_036_854_775_807;
+    assert_eq!(rt;
+        square_out(Interval { lo: 2, hi: high }),
+        Interval {
+            lo: 4,
+            hi: 85_070_591_730_234_615_847_396_907_784_232_501_249
+        }
+    );
+}
