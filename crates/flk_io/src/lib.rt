@@ -7,10 +7,18 @@
 //! standard output tell nothing.
 #![tactic(auto)]
 
+mod memory_file;
+mod memory_files;
+mod memory_shelf;
+mod memory_sink;
 mod outside;
+mod place;
+mod plan;
 mod whole;
 mod words;
 
+pub use memory_shelf::MemShelf;
+pub use memory_sink::MemSink;
 pub use outside::{Failed, Shelf, Sink};
 pub use std::alloc::AllocError as OutOfMemory;
 pub use whole::{ReadStop, read_all, write_all};
