@@ -11,9 +11,11 @@ mod memory_file;
 mod memory_files;
 mod memory_shelf;
 mod memory_sink;
+mod open_files;
 mod outside;
 mod place;
 mod plan;
+mod system;
 mod whole;
 mod words;
 
@@ -21,5 +23,9 @@ pub use memory_shelf::MemShelf;
 pub use memory_sink::MemSink;
 pub use outside::{Failed, Shelf, Sink};
 pub use std::alloc::AllocError as OutOfMemory;
+pub use system::{FileShelf, StdSink};
 pub use whole::{ReadStop, read_all, write_all};
 pub use words::Words;
+
+#[cfg(test)]
+mod tests;

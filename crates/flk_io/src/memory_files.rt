@@ -102,7 +102,12 @@ fn make_room_at(files: &mut [File], name: &str, i: usize, bytes: usize) -> Resul
 }
 
 /// Sets what is left to read under a name.
-pub(crate) fn put_to(files: &mut Vec<File>, alloc: Global, name: &str, bytes: &[u8]) -> Result<(), OutOfMemory>
+pub(crate) fn put_to(
+    files: &mut Vec<File>,
+    alloc: Global,
+    name: &str,
+    bytes: &[u8],
+) -> Result<(), OutOfMemory>
     ensures put { OnOk result (left_of files.new.items name.now ≡ bytes.now) }
     ensures others { OthersStay name.now (left_of files.old.items) (left_of files.new.items) }
     ensures kept { OnErr result (AllStay (left_of files.old.items) (left_of files.new.items)) }
@@ -116,7 +121,12 @@ pub(crate) fn put_to(files: &mut Vec<File>, alloc: Global, name: &str, bytes: &[
 }
 
 /// Makes place for so many more bytes under a name.
-pub(crate) fn make_room_in(files: &mut Vec<File>, alloc: Global, name: &str, bytes: usize) -> Result<(), OutOfMemory>
+pub(crate) fn make_room_in(
+    files: &mut Vec<File>,
+    alloc: Global,
+    name: &str,
+    bytes: usize,
+) -> Result<(), OutOfMemory>
     ensures ok { OnOk result (room_of files.new.items name.now ≡ room_of files.old.items name.now + bytes) }
     ensures others { OthersStay name.now (room_of files.old.items) (room_of files.new.items) }
     ensures kept { OnErr result (AllStay (room_of files.old.items) (room_of files.new.items)) }

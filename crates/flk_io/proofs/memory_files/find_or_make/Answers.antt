@@ -1,5 +1,5 @@
 use Rattle.std.proofs.Common.{rules, ◌≡◌, ◌++◌, ◌∷◌, [], length}
-use Rattle.flk_io.specs.Files.{rest, extra, place, NoFile, IsFirst}
+use Rattle.flk_io.specs.Files.{rest, extra, place, NoFile}
 use Rattle.flk_io.proofs.Lookups.{IsFirst-new, held-new}
 use Rattle.flk_io.proofs.memory_files.find_or_make.Goals as goal
 

@@ -1,4 +1,4 @@
-use Rattle.std.proofs.Common.{rules, ◌≡◌, ◌++◌, ◌+◌, [], ap, sym, ◌∙◌, get_or, length, min, arith}
+use Rattle.std.proofs.Common.{◌+◌, [], ap, sym, ◌∙◌, get_or}
 use Rattle.flk_io.specs.Files.{rest, extra, place}
 use Rattle.flk_io.proofs.Lookups.{OnOk-map, OnErr-map, IsChange, held-was, held-changed, held-others, held-kept}
 use Rattle.flk_io.proofs.memory_files.make_room_at.Goals as goal

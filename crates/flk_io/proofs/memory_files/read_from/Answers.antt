@@ -1,4 +1,4 @@
-use Rattle.std.proofs.Common.{rules, ◌≡◌, ◌++◌, ◌+◌, [], ap, sym, ◌∙◌, get_or, length, min, take, arith}
+use Rattle.std.proofs.Common.{◌≡◌, ◌++◌, [], ap, sym, ◌∙◌, get_or, length, min, take, arith}
 use Rattle.flk_io.specs.Files.{rest, extra, place, left_of}
 use Rattle.flk_io.proofs.Lookups.{IsChange, held-none, held-was, held-changed, held-others, held-kept}
 use Rattle.flk_io.proofs.memory_files.read_from.Goals as goal

@@ -1,4 +1,4 @@
-use Rattle.std.proofs.Common.{rules, ◌≡◌, ◌++◌, ◌+◌, [], ap, sym, ◌∙◌, get_or, length, min, arith}
+use Rattle.std.proofs.Common.{[], ap, ◌∙◌, get_or}
 use Rattle.flk_io.specs.Files.{rest, extra, place}
 use Rattle.flk_io.proofs.Lookups.{IsChange, held-changed, held-others, held-kept}
 use Rattle.flk_io.proofs.memory_files.set_at.Goals as goal
