@@ -7,11 +7,25 @@
 //! standard output tell nothing.
 #![tactic(auto)]
 
+mod memory_file;
+mod memory_files;
+mod memory_shelf;
+mod memory_sink;
+mod open_files;
 mod outside;
+mod place;
+mod plan;
+mod system;
 mod whole;
 mod words;
 
+pub use memory_shelf::MemShelf;
+pub use memory_sink::MemSink;
 pub use outside::{Failed, Shelf, Sink};
 pub use std::alloc::AllocError as OutOfMemory;
+pub use system::{FileShelf, StdSink};
 pub use whole::{ReadStop, read_all, write_all};
 pub use words::Words;
+
+#[cfg(test)]
+mod tests;
