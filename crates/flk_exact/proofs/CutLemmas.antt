@@ -1,5 +1,5 @@
 -- The cuts of a recording: there is one list of them, what one more sample does to it, and what the half-periods keep.
-use Rattle.std.proofs.Common.{◌≡◌, ◌≢◌, ◌⊎◌, inl, inr, ℕ, ◌+◌, ◌-◌, ◌*◌, ◌<◌, ◌≤◌, Bool, true, false, List, [], ◌∷◌, ◌++◌, length, get_or, refl, sym, ap, subst, ⊎_elim, arith, length-append, append_assoc, append-nil}
+use Rattle.std.proofs.Common.{◌≡◌, ◌≢◌, ◌⊎◌, inl, inr, ℕ, ◌+◌, ◌-◌, ◌*◌, ◌<◌, ◌≤◌, Bool, true, false, List, [], ◌∷◌, ◌++◌, length, get_or, refl, sym, ap, subst, ⊎_elim, arith, length-append, append_assoc, append-nil, drop, length-take}
 use Rattle.std.specs.Prelude.{slice_range}
 use Rattle.std.specs.List.{All, AllZip}
 use Rattle.std.proofs.lemmas.Bool.{cases_lt, cases_eq, true≢false, false≢true}
@@ -70,6 +70,16 @@ last_cut-below half negative cuts h = last_cut_from-below half negative 0 cuts h
 pub few_samples : (half : ℕ) (negative : List Bool) (s p : ℕ) → 0 < half → IsNextCut half negative s p → p - s ≤ 2 * half
 few_samples half negative s p some cut =
     ⊎_elim (λ more. absurd (cut.least (s + 2 * half) (omega arith) (omega arith) (inl refl))) (λ few. few) (cases_lt (2 * half) (p - s))
+
+few_in_parts : {A : Type 0} (half : ℕ) (negative : List Bool) (s : ℕ) (cuts : List ℕ) (xs : List A) → 0 < half → AreCutsFrom half negative s cuts → All (λ part. length part ≤ 2 * half) (parts_from s cuts xs)
+few_in_parts half negative s [] xs some h = All-nil (λ part. length part ≤ 2 * half)
+few_in_parts half negative s (p ∷ ps) xs some h =
+    All-cons (λ part. length part ≤ 2 * half) (slice_range xs s p) (parts_from p ps xs)
+    (omega (arith, few_samples half negative s p some h.0, length-take (p - s) (drop s xs)))
+    (few_in_parts half negative p ps xs some h.1)
+
+pub few_in_half_periods : {A : Type 0} (half : ℕ) (negative : List Bool) (cuts : List ℕ) (xs : List A) → 0 < half → AreCuts half negative cuts → All (λ part. length part ≤ 2 * half) (half_periods cuts xs)
+few_in_half_periods half negative cuts xs some h = few_in_parts half negative 0 cuts xs some h
 
 -- ---- one more sample
 

@@ -1,5 +1,5 @@
 -- The value of a half-period: the sum of squares as natural numbers, and that there is one value.
-use Rattle.std.proofs.Common.{◌≡◌, ℕ, ◌+◌, ◌*◌, ◌^◌, ◌<◌, ◌≤◌, List, [], ◌∷◌, ℤ, pos, neg_ℤ, ◌≤ℤ◌, refl, ap, arith}
+use Rattle.std.proofs.Common.{◌≡◌, ℕ, ◌+◌, ◌*◌, ◌^◌, ◌<◌, ◌≤◌, List, [], ◌∷◌, ℤ, pos, neg_ℤ, ◌≤ℤ◌, refl, ap, arith, length, sym, ◌∙◌}
 use Rattle.std.specs.Prelude.{negsuc}
 use Rattle.std.proofs.Math.Nat.{mul-pos}
 use Rattle.std.specs.Int.RustNames.{unsigned_abs}
@@ -9,7 +9,8 @@ use Rattle.flk_exact.specs.HalfPeriod.{sum_of_squares, IsReached, IsHalfPeriodVa
 use Rattle.flk_exact.specs.Cut.{half_periods}
 use Rattle.flk_exact.proofs.WholeLemmas.{square_is}
 use Rattle.flk_exact.proofs.RootLemmas.{greatest_square, square_bounds}
-use Rattle.flk_exact.proofs.ListLemmas.{AllZip-exists, AllZip-unique}
+use Rattle.flk_exact.proofs.ListLemmas.{AllZip-exists, AllZip-unique, AllZip-length}
+use Rattle.flk_exact.proofs.CutLemmas.{length-half_periods}
 
 -- the sum of the squares is the one natural number over the other
 abbrev pub square_den : List Fraction → ℕ
@@ -63,3 +64,6 @@ values_exist half cuts run some = AllZip-exists (IsHalfPeriodValue half) (λ us.
 
 pub values_unique : (half : ℕ) (cuts : List ℕ) (run : List Fraction) (ws zs : List ℤ) → AreHalfPeriodValues half cuts run ws → AreHalfPeriodValues half cuts run zs → ws ≡ zs
 values_unique half cuts run ws zs h k = AllZip-unique (IsHalfPeriodValue half) (λ us w z. value_unique half us w z) (half_periods cuts run) ws zs h k
+
+pub values_length : (half : ℕ) (cuts : List ℕ) (run : List Fraction) (values : List ℤ) → AreHalfPeriodValues half cuts run values → length values ≡ length cuts
+values_length half cuts run values h = sym (AllZip-length (IsHalfPeriodValue half) (half_periods cuts run) values h) ∙ length-half_periods cuts run

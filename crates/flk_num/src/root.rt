@@ -49,6 +49,7 @@ pub fn root_floor(v: i128) -> i128
     requires high { v <ℤ pos (2 ^ 126) }
     ensures { IsRootFloor v result }
 {
+    // Squares of levels below four times nominal, in billionths, fit a word. Greater ones are rare.
     match u64::try_from(v) {
         Ok(word) => i128::from(word_root(word)),
         Err(_) => v.isqrt(),
