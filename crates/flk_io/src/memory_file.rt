@@ -1,5 +1,5 @@
 // One file in memory.
-ghost use Rattle.std.specs.Prelude.{◌≡◌, ◌++◌, ◌+◌, ◌-◌, ◌≤◌, ◌<◌, [], min, length, vec_len, vec_capacity, take, drop, string_bytes, IfOk, OnOk, OnErr};
+ghost use Rattle.std.specs.Prelude.{◌≡◌, ◌++◌, ◌+◌, ◌≤◌, [], min, length, vec_len, vec_capacity, take, drop, string_bytes, IfOk, OnOk, OnErr};
 
 use crate::OutOfMemory;
 use crate::place::take_front;

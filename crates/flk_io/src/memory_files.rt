@@ -1,5 +1,5 @@
 // Files in memory, by their names.
-ghost use Rattle.std.specs.Prelude.{◌≡◌, ◌++◌, ◌+◌, ◌<◌, ◌≤◌, ℕ, [], min, length, take, IfSome, IfNone, IfOk, OnOk, OnErr};
+ghost use Rattle.std.specs.Prelude.{◌≡◌, ◌++◌, ◌+◌, ◌<◌, min, length, take, IfSome, IfNone, IfOk, OnOk, OnErr};
 ghost use Rattle.flk_io.specs.Causes.{OthersStay, AllStay};
 ghost use Rattle.flk_io.specs.Files.{left_of, added_of, room_of, IsFirst, NoFile};
 

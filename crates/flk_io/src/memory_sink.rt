@@ -1,5 +1,5 @@
 // A sink in memory.
-ghost use Rattle.std.specs.Prelude.{◌≡◌, ◌↔◌, ◌⊎◌, ◌+◌, ◌-◌, ◌<◌, ◌≤◌, ◌++◌, ◌∷◌, [], Some, min, length, vec_len, vec_capacity, Contains, IfOk, OnOk, OnErr, IsErr};
+ghost use Rattle.std.specs.Prelude.{◌≡◌, ◌↔◌, ◌⊎◌, ◌+◌, ◌<◌, ◌≤◌, ◌++◌, ◌∷◌, [], Some, min, length, vec_len, vec_capacity, Contains, IfOk, OnOk, OnErr, IsErr};
 ghost use Rattle.flk_io.specs.Causes.{one_more, HasCause, Adds};
 
 use crate::place::take_front;

@@ -1,5 +1,5 @@
 // The files that are open, by their paths.
-ghost use Rattle.std.specs.Prelude.{◌≡◌, ◌<◌, ◌≤◌, length, vec_len, vec_capacity, IfSome, IfOk, OnOk};
+ghost use Rattle.std.specs.Prelude.{◌<◌, length, vec_len, IfSome, IfOk};
 
 use std::alloc::Global;
 use std::fs::File;
@@ -8,6 +8,15 @@ use std::{fs, io};
 
 /// How often a call that a signal interrupted is made again.
 const TRIES: u32 = 1000;
+
+/// How a file is opened.
+#[derive(Clone, Copy)]
+enum Opening {
+    /// As it stands, to be read from its start.
+    ToRead,
+    /// Made, or emptied, to be written.
+    Empty,
+}
 
 #[derive(Drop)]
 struct OpenFile {
@@ -37,14 +46,7 @@ impl OpenFiles {
         name: &str,
         buf: &mut [u8],
     ) -> io::Result<usize> {
-        let i = match place(&self.files, name) {
-            Some(i) => i,
-            None => {
-                let owned = self.make_place(name)?;
-                let file = fs::open(rt, name)?;
-                self.keep(owned, file)
-            }
-        };
+        let i = self.find_or_open(rt, name, Opening::ToRead)?;
         read_some(&mut self.files[i].file, buf)
     }
 
@@ -55,35 +57,27 @@ impl OpenFiles {
         name: &str,
         bytes: &[u8],
     ) -> io::Result<usize> {
-        let i = match place(&self.files, name) {
-            Some(i) => i,
-            None => {
-                let owned = self.make_place(name)?;
-                let file = fs::create(rt, name)?;
-                self.keep(owned, file)
-            }
-        };
+        let i = self.find_or_open(rt, name, Opening::Empty)?;
         write_some(&mut self.files[i].file, bytes)
     }
 
-    /// Takes the memory for one more file before it is opened: with none, no bytes are taken from
-    /// the file, and it isn't made empty twice.
-    fn make_place(&mut self, name: &str) -> io::Result<String>
-        ensures { OnOk result (vec_len self.new.files < vec_capacity self.new.files) }
+    /// Where the file of a name is. The memory for one more file is taken before it is opened: with
+    /// none, no bytes are taken from the file, and it isn't made empty twice.
+    fn find_or_open(&mut self, rt: &HostRuntime, name: &str, opening: Opening) -> io::Result<usize>
+        ensures { IfOk result (λ i. i < vec_len self.new.files) }
     {
+        if let Some(i) = place(&self.files, name) {
+            return Ok(i);
+        }
         let owned = String::from_str(self.alloc, name)?;
         self.files.reserve(1)?;
-        Ok(owned)
-    }
-
-    /// Keeps an open file in the place that was made, and answers where it is.
-    fn keep(&mut self, name: String, file: File) -> usize
-        requires { vec_len self.old.files < vec_capacity self.old.files }
-        ensures { result < vec_len self.new.files }
-    {
+        let file = match opening {
+            Opening::ToRead => fs::open(rt, name)?,
+            Opening::Empty => fs::create(rt, name)?,
+        };
         let i = self.files.len();
-        self.files.push_reserved(OpenFile { name, file });
-        i
+        self.files.push_reserved(OpenFile { name: owned, file });
+        Ok(i)
     }
 }
 

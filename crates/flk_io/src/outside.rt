@@ -1,5 +1,5 @@
 // What the program asks of the outside.
-ghost use Rattle.std.specs.Prelude.{◌≡◌, ℕ, ◌<◌, ◌≤◌, List, Option, length};
+ghost use Rattle.std.specs.Prelude.{◌≡◌, ℕ, ◌<◌, List, Option, length};
 ghost use Rattle.flk_io.specs.Causes.{HasCause, OthersStay, AllStay, Takes, Adds};
 
 /// A call of the outside failed.
