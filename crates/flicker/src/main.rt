@@ -1,0 +1,39 @@
+//! The program: the words of the command line, files and standard output, handed to the top call.
+#![tactic(auto)]
+
+use flk_io::{FileShelf, StdSink, Words};
+use flk_top::{Gate, run};
+use std::alloc::{AllocError, Global};
+use std::process::ExitCode;
+use std::{env, io};
+
+/// The status where no memory is found before the top call.
+const OUT_OF_MEMORY: u8 = 6;
+
+/// A gate at which nothing is done.
+struct Open;
+
+impl Gate for Open {
+    fn enter(&self, phase: usize) {
+        let _ = phase;
+    }
+}
+
+// The words of the command line after the program's name.
+fn words_of(rt: &HostRuntime, alloc: Global) -> io::Result<Words> {
+    let mut words = Words::new(alloc);
+    for word in env::args(rt)?.skip(1) {
+        words.push(word.as_str())?;
+    }
+    Ok(words)
+}
+
+fn main(rt: HostRuntime) -> ExitCode {
+    let alloc = rt.alloc();
+    let Ok(words) = words_of(&rt, alloc) else {
+        return ExitCode::from(OUT_OF_MEMORY);
+    };
+    let mut shelf = FileShelf::new(&rt, alloc);
+    let mut sink = StdSink::new(&rt);
+    ExitCode::from(run(&rt, alloc, &words, &mut shelf, &mut sink, &Open))
+}

@@ -1,0 +1,221 @@
+-- From the intervals of samples to the extremes of every run.
+use Rattle.std.proofs.Common.{ℕ, ◌-◌, ◌*◌, ◌^◌, ◌<◌, ◌≤◌, Bool, List, [], ◌∷◌, length, map, drop, get_or, ℤ, pos, ◌+ℤ◌, ◌-ℤ◌, ◌*ℤ◌, ◌≤ℤ◌, Option, Some, None, arith, length-take}
+use Rattle.std.specs.Prelude.{negsuc, slice_range}
+use Rattle.std.specs.Int.{is_negative}
+use Rattle.std.specs.List.{All, AllZip, Contains}
+use Rattle.std.proofs.lemmas.Int.{ints}
+use Rattle.std.proofs.lemmas.List.{get_or-map, length-map}
+use Rattle.std.proofs.lemmas.List.Elements.{All-nil, All-cons, All-take, All-drop}
+use Rattle.flk_exact.specs.Fraction.{Fraction, ◌≤ℚ◌, whole}
+use Rattle.flk_exact.specs.Rounding.{IsBetween}
+use Rattle.flk_exact.specs.Run.{IsAdmitted, IsAdmittedRun, CoversDoubt}
+use Rattle.flk_exact.specs.Cut.{AreCutsFrom, AreCuts, parts_from, half_periods}
+use Rattle.flk_exact.specs.HalfPeriod.{IsHalfPeriodValue, AreHalfPeriodValues, half_period_width}
+use Rattle.flk_exact.specs.Extreme.{IsLeast, IsGreatest}
+use Rattle.flk_exact.proofs.WholeLemmas.{atom, nat, plus_is, times_is, from_at_most, scale_≤}
+use Rattle.flk_exact.proofs.FractionLemmas.{≤ℚ-trans}
+use Rattle.flk_exact.proofs.ListLemmas.{AllZip-length, AllZip-get_or, AllZip-joined}
+use Rattle.flk_exact.proofs.CutLemmas.{AllZip-half_periods, length-half_periods, few_samples}
+use Rattle.flk_num.specs.declared.interval.Interval.{Interval}
+use Rattle.flk_num.specs.Interval.{Holds, HoldEach, IsNarrow}
+use Rattle.flk_num.specs.Square.{least_squares}
+use Rattle.flk_top.specs.Voltage.{recorded_voltage, IsVoltageInterval}
+use Rattle.flk_top.specs.Cutter.{IsHalfPeriodInterval}
+use Rattle.flk_top.specs.Levels.{HoldsEveryRun, KeepsWidth, IsExtremeInterval, AreExtremeIntervals, AreExtremeIntervalsIfAny, AreExtremes, AreExtremesIfAny}
+use Rattle.flk_top.specs.declared.measure.Extremes.{Extremes}
+use Rattle.flk_top.proofs.VoltageLemmas.{voltage_holds, voltage_narrow}
+use Rattle.flk_top.proofs.EnclosureLemmas.{IsValueAt-natural, half_period_holds}
+use Rattle.flk_top.proofs.WidthLemmas.{half_period_narrow}
+
+-- ---- lists
+
+-- a list made of another stands beside a third as the other does
+AllZip-from_map : {A B C : Type 0} (R : B → C → Type 0) (f : A → B) (xs : List A) (ys : List C) → AllZip R (map f xs) ys → AllZip (λ x y. R (f x) y) xs ys
+AllZip-from_map R f [] [] h = tt
+AllZip-from_map R f [] (y ∷ ys) h = absurd h
+AllZip-from_map R f (x ∷ xs) [] h = absurd h
+AllZip-from_map R f (x ∷ xs) (y ∷ ys) h = (h.0, AllZip-from_map R f xs ys h.1)
+
+-- where each number is at most its fellow, so are the extremes
+least_≤ : (xs ys : List ℤ) (m n : ℤ) → AllZip ◌≤ℤ◌ xs ys → IsLeast xs m → IsLeast ys n → m ≤ℤ n
+least_≤ xs ys m n h low high =
+    let k = high.among.0 in
+    let less : k < length xs = omega (arith, AllZip-length ◌≤ℤ◌ xs ys h, high.among.1) in
+    omega (arith, ints, low.at_most k m less, AllZip-get_or ◌≤ℤ◌ xs ys k m n h less, high.among.2)
+
+greatest_≤ : (xs ys : List ℤ) (m n : ℤ) → AllZip ◌≤ℤ◌ xs ys → IsGreatest xs m → IsGreatest ys n → m ≤ℤ n
+greatest_≤ xs ys m n h low high =
+    let k = low.among.0 in
+    let less : k < length ys = omega (arith, AllZip-length ◌≤ℤ◌ xs ys h, low.among.1) in
+    omega (arith, ints, high.at_least k n less, AllZip-get_or ◌≤ℤ◌ xs ys k m n h low.among.1, low.among.2)
+
+-- ---- every run
+
+run_held : (nominal uncertainty : ℕ) (samples : List ℤ) (voltages : List Interval) (run : List Fraction) → 0 < nominal → AllZip (IsVoltageInterval nominal uncertainty) samples voltages
+    → IsAdmittedRun (1000 * nominal) uncertainty (map recorded_voltage samples) run → HoldEach voltages run
+run_held nominal uncertainty samples voltages run some are admitted =
+    AllZip-joined (IsVoltageInterval nominal uncertainty) (λ x u. IsAdmitted (1000 * nominal) uncertainty (recorded_voltage x) u) Holds
+    (λ x v u is near. voltage_holds nominal uncertainty x v u some is near) samples voltages run are
+    (AllZip-from_map (IsAdmitted (1000 * nominal) uncertainty) recorded_voltage samples run admitted)
+
+-- w lies in h
+abbrev pub LiesIn : Interval → ℤ → Type 0
+LiesIn h w = IsBetween h.lo h.hi w
+
+values_held : (half : ℕ) (cuts : List ℕ) (voltages : List Interval) (run : List Fraction) (intervals : List Interval) (values : List ℤ) → HoldEach voltages run
+    → AllZip (IsHalfPeriodInterval half) (half_periods cuts voltages) intervals → AreHalfPeriodValues half cuts run values → AllZip LiesIn intervals values
+values_held half cuts voltages run intervals values held are those =
+    let parts : AllZip HoldEach (half_periods cuts voltages) (half_periods cuts run) = AllZip-half_periods Holds cuts voltages run held in
+    AllZip-joined (λ us h. (w : ℤ) → IsHalfPeriodValue half us w → LiesIn h w) (IsHalfPeriodValue half) LiesIn (λ us h w lies value. lies w value) (half_periods cuts run) intervals values
+    (AllZip-joined HoldEach (IsHalfPeriodInterval half) (λ us h. (w : ℤ) → IsHalfPeriodValue half us w → LiesIn h w)
+    (λ vs us h each is w value. half_period_holds half vs us h w each is value) (half_periods cuts voltages) (half_periods cuts run) intervals parts are)
+    those
+
+lows_≤ : (intervals : List Interval) (values : List ℤ) → AllZip LiesIn intervals values → AllZip ◌≤ℤ◌ (map (λ h. h.lo) intervals) values
+lows_≤ [] [] h = tt
+lows_≤ [] (w ∷ ws) h = absurd h
+lows_≤ (v ∷ vs) [] h = absurd h
+lows_≤ (v ∷ vs) (w ∷ ws) h = (h.0.above, lows_≤ vs ws h.1)
+
+highs_≤ : (intervals : List Interval) (values : List ℤ) → AllZip LiesIn intervals values → AllZip ◌≤ℤ◌ values (map (λ h. h.hi) intervals)
+highs_≤ [] [] h = tt
+highs_≤ [] (w ∷ ws) h = absurd h
+highs_≤ (v ∷ vs) [] h = absurd h
+highs_≤ (v ∷ vs) (w ∷ ws) h = (h.0.below, highs_≤ vs ws h.1)
+
+pub least_holds : (half nominal uncertainty : ℕ) (samples : List ℤ) (voltages : List Interval) (cuts : List ℕ) (intervals : List Interval) (v : Interval) → 0 < nominal → AllZip (IsVoltageInterval nominal uncertainty) samples voltages
+    → AllZip (IsHalfPeriodInterval half) (half_periods cuts voltages) intervals → IsExtremeInterval IsLeast intervals v → HoldsEveryRun IsLeast half nominal uncertainty samples cuts v
+least_holds half nominal uncertainty samples voltages cuts intervals v some are_voltages are_intervals is run values m admitted those least =
+    let held = values_held half cuts voltages run intervals values (run_held nominal uncertainty samples voltages run some are_voltages admitted) are_intervals those in
+    record {
+      above = least_≤ (map (λ h. h.lo) intervals) values v.lo m (lows_≤ intervals values held) is.low least;
+      below = least_≤ values (map (λ h. h.hi) intervals) m v.hi (highs_≤ intervals values held) least is.high;
+    }
+
+pub greatest_holds : (half nominal uncertainty : ℕ) (samples : List ℤ) (voltages : List Interval) (cuts : List ℕ) (intervals : List Interval) (v : Interval) → 0 < nominal → AllZip (IsVoltageInterval nominal uncertainty) samples voltages
+    → AllZip (IsHalfPeriodInterval half) (half_periods cuts voltages) intervals → IsExtremeInterval IsGreatest intervals v → HoldsEveryRun IsGreatest half nominal uncertainty samples cuts v
+greatest_holds half nominal uncertainty samples voltages cuts intervals v some are_voltages are_intervals is run values m admitted those greatest =
+    let held = values_held half cuts voltages run intervals values (run_held nominal uncertainty samples voltages run some are_voltages admitted) are_intervals those in
+    record {
+      above = greatest_≤ (map (λ h. h.lo) intervals) values v.lo m (lows_≤ intervals values held) is.low greatest;
+      below = greatest_≤ values (map (λ h. h.hi) intervals) m v.hi (highs_≤ intervals values held) greatest is.high;
+    }
+
+-- ---- widths
+
+voltages_narrow : (nominal uncertainty : ℕ) (samples : List ℤ) (voltages : List Interval) (delta : Fraction) → 0 < nominal → AllZip (IsVoltageInterval nominal uncertainty) samples voltages → CoversDoubt (1000 * nominal) uncertainty delta → All (IsNarrow delta) voltages
+voltages_narrow nominal uncertainty [] [] delta some are covers = All-nil (IsNarrow delta)
+voltages_narrow nominal uncertainty [] (v ∷ vs) delta some are covers = absurd are
+voltages_narrow nominal uncertainty (x ∷ xs) [] delta some are covers = absurd are
+voltages_narrow nominal uncertainty (x ∷ xs) (v ∷ vs) delta some are covers =
+    All-cons (IsNarrow delta) v vs (voltage_narrow nominal uncertainty x v delta some are.0 covers) (voltages_narrow nominal uncertainty xs vs delta some are.1 covers)
+
+-- a delta that covers the doubt is not below 0
+natural_by : (n e d : ℕ) (z : ℤ) → 0 < n → ((pos e *ℤ pos (1 * 2 ^ 48) +ℤ (pos n *ℤ pos 2) *ℤ pos 1) *ℤ pos (1 * d)) ≤ℤ ((pos n *ℤ z) *ℤ pos (1 * (1 * 2 ^ 48))) → pos 0 ≤ℤ z
+natural_by n e d (pos k) some h = omega (arith, ints)
+natural_by n e d (negsuc k) some h =
+    let most = from_at_most (times_is (plus_is (times_is (nat e) (nat (1 * 2 ^ 48))) (times_is (times_is (nat n) (nat 2)) (nat 1))) (nat (1 * d))) (times_is (times_is (nat n) (atom (negsuc k))) (nat (1 * (1 * 2 ^ 48)))) h in
+    absurd (omega (arith, most))
+
+pub delta_natural : (n e : ℕ) (delta : Fraction) → 0 < n → CoversDoubt n e delta → pos 0 ≤ℤ delta.num
+delta_natural n e delta some h = natural_by n e delta.den delta.num some h.covers.cross
+
+-- the interval is as narrow as delta promises
+abbrev pub IsNarrowValue : Fraction → Interval → Type 0
+IsNarrowValue delta h = whole (h.hi -ℤ h.lo) ≤ℚ half_period_width delta
+
+narrow_values : (half : ℕ) (negative : List Bool) (s : ℕ) (delta : Fraction) (voltages : List Interval) (cuts : List ℕ) (intervals : List Interval) → 0 < half → pos 0 ≤ℤ delta.num → All (IsNarrow delta) voltages
+    → AreCutsFrom half negative s cuts → AllZip (IsHalfPeriodInterval half) (parts_from s cuts voltages) intervals → All (IsNarrowValue delta) intervals
+narrow_values half negative s delta voltages [] [] some natural narrow cuts are = All-nil (IsNarrowValue delta)
+narrow_values half negative s delta voltages [] (h ∷ hs) some natural narrow cuts are = absurd are
+narrow_values half negative s delta voltages (p ∷ ps) [] some natural narrow cuts are = absurd are
+narrow_values half negative s delta voltages (p ∷ ps) (h ∷ hs) some natural narrow cuts are =
+    let count : length (slice_range voltages s p) ≤ 2 * half = omega (arith, few_samples half negative s p some cuts.0, length-take (p - s) (drop s voltages)) in
+    let part = All-take (IsNarrow delta) (p - s) (drop s voltages) (All-drop (IsNarrow delta) s voltages narrow) in
+    All-cons (IsNarrowValue delta) h hs (half_period_narrow half (slice_range voltages s p) h delta some count natural part are.0)
+    (narrow_values half negative p delta voltages ps hs some natural narrow cuts.1 are.1)
+
+-- an interval within the width of a narrow one is narrow
+narrower : (a b : ℤ) (w : Fraction) → a ≤ℤ b → whole b ≤ℚ w → whole a ≤ℚ w
+narrower a b w less h = ≤ℚ-trans (whole a) (whole b) w record { cross = scale_≤ a b 1 less } h
+
+least_narrow : (delta : Fraction) (intervals : List Interval) (v : Interval) → All (IsNarrowValue delta) intervals → IsExtremeInterval IsLeast intervals v → IsNarrowValue delta v
+least_narrow delta intervals v narrow is =
+    let k = is.low.among.0 in
+    let less : k < length intervals = omega (arith, is.low.among.1, length-map intervals (λ h. h.lo)) in
+    let there : k < length (map (λ h. h.hi) intervals) = omega (arith, less, length-map intervals (λ h. h.hi)) in
+    let h = get_or intervals k v in
+    let lo = get_or-map (λ h. h.lo) intervals k v v.lo less in
+    let hi = get_or-map (λ h. h.hi) intervals k v v.hi less in
+    narrower (v.hi -ℤ v.lo) (h.hi -ℤ h.lo) (half_period_width delta) (omega (arith, ints, lo, hi, is.low.among.2, is.high.at_most k v.hi there)) (narrow k v less)
+
+greatest_narrow : (delta : Fraction) (intervals : List Interval) (v : Interval) → All (IsNarrowValue delta) intervals → IsExtremeInterval IsGreatest intervals v → IsNarrowValue delta v
+greatest_narrow delta intervals v narrow is =
+    let k = is.high.among.0 in
+    let less : k < length intervals = omega (arith, is.high.among.1, length-map intervals (λ h. h.hi)) in
+    let there : k < length (map (λ h. h.lo) intervals) = omega (arith, less, length-map intervals (λ h. h.lo)) in
+    let h = get_or intervals k v in
+    let lo = get_or-map (λ h. h.lo) intervals k v v.lo less in
+    let hi = get_or-map (λ h. h.hi) intervals k v v.hi less in
+    narrower (v.hi -ℤ v.lo) (h.hi -ℤ h.lo) (half_period_width delta) (omega (arith, ints, lo, hi, is.high.among.2, is.low.at_least k v.lo there)) (narrow k v less)
+
+all_narrow : (half nominal uncertainty : ℕ) (negative : List Bool) (samples : List ℤ) (voltages : List Interval) (cuts : List ℕ) (intervals : List Interval) (delta : Fraction) → 0 < half → 0 < nominal → AreCuts half negative cuts
+    → AllZip (IsVoltageInterval nominal uncertainty) samples voltages → AllZip (IsHalfPeriodInterval half) (half_periods cuts voltages) intervals → CoversDoubt (1000 * nominal) uncertainty delta → All (IsNarrowValue delta) intervals
+all_narrow half nominal uncertainty negative samples voltages cuts intervals delta some high are_cuts are_voltages are_intervals covers =
+    let thousand : 0 < 1000 * nominal = omega arith in
+    narrow_values half negative 0 delta voltages cuts intervals some (delta_natural (1000 * nominal) uncertainty delta thousand covers)
+    (voltages_narrow nominal uncertainty samples voltages delta high are_voltages covers) are_cuts are_intervals
+
+pub least_keeps_width : (half nominal uncertainty : ℕ) (negative : List Bool) (samples : List ℤ) (voltages : List Interval) (cuts : List ℕ) (intervals : List Interval) (v : Interval) → 0 < half → 0 < nominal → AreCuts half negative cuts
+    → AllZip (IsVoltageInterval nominal uncertainty) samples voltages → AllZip (IsHalfPeriodInterval half) (half_periods cuts voltages) intervals → IsExtremeInterval IsLeast intervals v → KeepsWidth nominal uncertainty v
+least_keeps_width half nominal uncertainty negative samples voltages cuts intervals v some high are_cuts are_voltages are_intervals is delta covers =
+    least_narrow delta intervals v (all_narrow half nominal uncertainty negative samples voltages cuts intervals delta some high are_cuts are_voltages are_intervals covers) is
+
+pub greatest_keeps_width : (half nominal uncertainty : ℕ) (negative : List Bool) (samples : List ℤ) (voltages : List Interval) (cuts : List ℕ) (intervals : List Interval) (v : Interval) → 0 < half → 0 < nominal → AreCuts half negative cuts
+    → AllZip (IsVoltageInterval nominal uncertainty) samples voltages → AllZip (IsHalfPeriodInterval half) (half_periods cuts voltages) intervals → IsExtremeInterval IsGreatest intervals v → KeepsWidth nominal uncertainty v
+greatest_keeps_width half nominal uncertainty negative samples voltages cuts intervals v some high are_cuts are_voltages are_intervals is delta covers =
+    greatest_narrow delta intervals v (all_narrow half nominal uncertainty negative samples voltages cuts intervals delta some high are_cuts are_voltages are_intervals covers) is
+
+-- ---- no interval reaches below 0
+
+natural_lows : (half : ℕ) (parts : List (List Interval)) (intervals : List Interval) → AllZip (IsHalfPeriodInterval half) parts intervals → All (λ z. pos 0 ≤ℤ z) (map (λ h. h.lo) intervals)
+natural_lows half [] [] are = All-nil (λ z. pos 0 ≤ℤ z)
+natural_lows half [] (h ∷ hs) are = absurd are
+natural_lows half (vs ∷ parts) [] are = absurd are
+natural_lows half (vs ∷ parts) (h ∷ hs) are =
+    All-cons (λ z. pos 0 ≤ℤ z) h.lo (map (λ h. h.lo) hs) (IsValueAt-natural half (least_squares vs) h.lo are.0.low) (natural_lows half parts hs are.1)
+
+natural_among : (xs : List ℤ) (m : ℤ) → All (λ z. pos 0 ≤ℤ z) xs → Contains xs m → pos 0 ≤ℤ m
+natural_among xs m h among = omega (arith, ints, h among.0 m among.1, among.2)
+
+pub least_natural : (half : ℕ) (parts : List (List Interval)) (intervals : List Interval) (v : Interval) → AllZip (IsHalfPeriodInterval half) parts intervals → IsExtremeInterval IsLeast intervals v → pos 0 ≤ℤ v.lo
+least_natural half parts intervals v are is = natural_among (map (λ h. h.lo) intervals) v.lo (natural_lows half parts intervals are) is.low.among
+
+pub greatest_natural : (half : ℕ) (parts : List (List Interval)) (intervals : List Interval) (v : Interval) → AllZip (IsHalfPeriodInterval half) parts intervals → IsExtremeInterval IsGreatest intervals v → pos 0 ≤ℤ v.lo
+greatest_natural half parts intervals v are is = natural_among (map (λ h. h.lo) intervals) v.lo (natural_lows half parts intervals are) is.low.among
+
+-- ---- the levels
+
+pub are_extremes : (half nominal uncertainty : ℕ) (samples : List ℤ) (voltages : List Interval) (cuts : List ℕ) (intervals : List Interval) (e : Extremes) → 0 < half → 0 < nominal → AreCuts half (map is_negative samples) cuts
+    → AllZip (IsVoltageInterval nominal uncertainty) samples voltages → AllZip (IsHalfPeriodInterval half) (half_periods cuts voltages) intervals → AreExtremeIntervals intervals e → AreExtremes half nominal uncertainty samples cuts e
+are_extremes half nominal uncertainty samples voltages cuts intervals e some high are_cuts are_voltages are_intervals are = record {
+  least_holds = least_holds half nominal uncertainty samples voltages cuts intervals e.least high are_voltages are_intervals are.least_is;
+  greatest_holds = greatest_holds half nominal uncertainty samples voltages cuts intervals e.greatest high are_voltages are_intervals are.greatest_is;
+  least_width = least_keeps_width half nominal uncertainty (map is_negative samples) samples voltages cuts intervals e.least some high are_cuts are_voltages are_intervals are.least_is;
+  greatest_width = greatest_keeps_width half nominal uncertainty (map is_negative samples) samples voltages cuts intervals e.greatest some high are_cuts are_voltages are_intervals are.greatest_is;
+  least_natural = least_natural half (half_periods cuts voltages) intervals e.least are_intervals are.least_is;
+  greatest_natural = greatest_natural half (half_periods cuts voltages) intervals e.greatest are_intervals are.greatest_is;
+  voltages = voltages;
+  intervals = intervals;
+  are_voltages = are_voltages;
+  are_intervals = are_intervals;
+  least_is = are.least_is;
+  greatest_is = are.greatest_is;
+}
+
+pub are_extremes_if_any : (half nominal uncertainty : ℕ) (samples : List ℤ) (voltages : List Interval) (cuts : List ℕ) (intervals : List Interval) (e : Option Extremes) → 0 < half → 0 < nominal → AreCuts half (map is_negative samples) cuts
+    → AllZip (IsVoltageInterval nominal uncertainty) samples voltages → AllZip (IsHalfPeriodInterval half) (half_periods cuts voltages) intervals → AreExtremeIntervalsIfAny intervals e → AreExtremesIfAny half nominal uncertainty samples cuts e
+are_extremes_if_any half nominal uncertainty samples voltages cuts intervals None some high are_cuts are_voltages are_intervals are =
+    omega (arith, are, AllZip-length (IsHalfPeriodInterval half) (half_periods cuts voltages) intervals are_intervals, length-half_periods cuts voltages)
+are_extremes_if_any half nominal uncertainty samples voltages cuts intervals (Some e) some high are_cuts are_voltages are_intervals are =
+    are_extremes half nominal uncertainty samples voltages cuts intervals e some high are_cuts are_voltages are_intervals are

@@ -1,0 +1,93 @@
+//! The program's top call: from the words of the command line to a status and a text.
+//!
+//! The words are those of a command (`command`). `levels` reads its two files (`levels`), takes the samples from the data
+//! (`recording`), turns each into the interval of its voltages (`scale`), cuts them into half-periods (`half`) and keeps the
+//! least and the greatest of their values (`measure`). The answer is composed whole (`text`, `reply`) before `run` writes it.
+#![tactic(auto)]
+
+ghost use Rattle.std.specs.Prelude.{◌≡◌, ◌≢◌, ◌⊎◌, ℕ, ◌<◌, List};
+ghost use Rattle.std.specs.Io.KnownBytes.{Appends};
+ghost use Rattle.flk_io.specs.Causes.{Rose, AllStay, AddsFront};
+ghost use Rattle.flk_cfg.specs.Plain.{IsPlain};
+ghost use Rattle.flk_top.specs.Command.{IsNoCommand, configuration_name, data_name};
+ghost use Rattle.flk_top.specs.Answer.{Tells, IsDue, AreAccepted, samples_of, usage_line, read_line};
+ghost use Rattle.flk_top.specs.Headline.{TellsLevels};
+
+mod command;
+mod half;
+mod levels;
+mod measure;
+mod recording;
+mod reply;
+mod scale;
+#[cfg(test)]
+mod tests;
+mod text;
+
+use crate::levels::answer;
+use flk_io::{Shelf, Sink, Words, write_all};
+pub use measure::{Extremes, Levels};
+use std::alloc::Global;
+use std::thread::Threads;
+
+/// What a caller does as a phase is entered. (No command enters one so far.)
+pub trait Gate {
+    fn enter(&self, phase: usize);
+}
+
+/// Runs the command that the words name, and answers the status.
+pub fn run<R: Threads + Sync, F: Shelf, K: Sink, G: Gate + Sync>(
+    rt: &R,
+    alloc: Global,
+    words: &Words,
+    shelf: &mut F,
+    sink: &mut K,
+    gate: &G,
+) -> u8
+    ensures known { (result ≡ 0) ⊎ ((result ≡ 2) ⊎ ((result ≡ 4) ⊎ ((result ≡ 5) ⊎ (result ≡ 6)))) }
+
+    // Files that are accepted: their levels are told, with intervals that hold every exact run and keep the stated width.
+    ensures levels { result ≢ 4 → result ≢ 5 → result ≢ 6 → (files : List ℕ → List ℕ) → Tells (F.left shelf.old) files
+        → (channel nominal uncertainty n : ℕ) → AreAccepted words.now files channel nominal uncertainty n
+        → (text : List ℕ) × TellsLevels channel nominal uncertainty (samples_of words.now files n) result text × Appends (K.written sink.old) (K.written sink.new) text }
+
+    // Any words and files: the text that is due is written whole, each exactly where its row says.
+    ensures text { result ≢ 4 → result ≢ 5 → result ≢ 6 → (files : List ℕ → List ℕ) → Tells (F.left shelf.old) files
+        → (text : List ℕ) × IsDue words.now files result text × Appends (K.written sink.old) (K.written sink.new) text }
+
+    // A failed read is told only where one came, and a failed write too, with a front of what was due.
+    ensures read { result ≡ 4 → Rose (F.read_faults shelf.old) (F.read_faults shelf.new) }
+    ensures read_text { result ≡ 4 → Appends (K.written sink.old) (K.written sink.new) read_line }
+    ensures read_told { F.read_faults shelf.old < F.read_faults shelf.new → (result ≡ 4) ⊎ ((result ≡ 5) ⊎ (result ≡ 6)) }
+    ensures write { result ≡ 5 → Rose (K.faults sink.old) (K.faults sink.new) }
+    ensures write_text { result ≡ 5 → (files : List ℕ → List ℕ) → Tells (F.left shelf.old) files
+        → ((status : ℕ) × (text : List ℕ) × IsDue words.now files status text × AddsFront (K.written sink.old) (K.written sink.new) text)
+        ⊎ (Rose (F.read_faults shelf.old) (F.read_faults shelf.new) × AddsFront (K.written sink.old) (K.written sink.new) read_line) }
+    ensures write_told { K.faults sink.old < K.faults sink.new → result ≡ 5 }
+
+    // Want of memory is free, and comes before anything is written. Every other answer comes with every count as at entry.
+    ensures memory { result ≡ 6 → K.written sink.new ≡ K.written sink.old }
+    ensures quiet { result ≢ 4 → result ≢ 5 → result ≢ 6 → (F.read_faults shelf.new ≡ F.read_faults shelf.old) × (K.faults sink.new ≡ K.faults sink.old) }
+
+    // Words of no command are told whatever the files are, and nothing is read.
+    ensures usage { IsNoCommand words.now → AllStay (F.left shelf.old) (F.left shelf.new) × (F.read_faults shelf.new ≡ F.read_faults shelf.old) }
+    ensures usage_text { IsNoCommand words.now → result ≢ 5 → result ≢ 6 → (result ≡ 2) × Appends (K.written sink.old) (K.written sink.new) usage_line }
+    ensures usage_front { IsNoCommand words.now → result ≡ 5 → AddsFront (K.written sink.old) (K.written sink.new) usage_line }
+
+    // Nothing is read but under the two names of `levels`, the data only after a plain configuration, and nothing is appended.
+    ensures others { (name : List ℕ) → name ≢ configuration_name words.now → name ≢ data_name words.now → F.left shelf.new name ≡ F.left shelf.old name }
+    ensures unread { (files : List ℕ → List ℕ) → Tells (F.left shelf.old) files → ((n : ℕ) → ¬ IsPlain (files (configuration_name words.now)) n)
+        → F.left shelf.new (data_name words.now) ≡ F.left shelf.old (data_name words.now) }
+    ensures added { AllStay (F.added shelf.old) (F.added shelf.new) }
+    ensures append_faults { F.append_faults shelf.new ≡ F.append_faults shelf.old }
+{
+    let _ = rt;
+    let _ = gate;
+    match answer(alloc, words, shelf) {
+        Err(_) => 6,
+        Ok(reply) => match write_all(sink, reply.text.as_bytes()) {
+            Ok(()) => reply.status,
+            Err(_) => 5,
+        },
+    }
+}

@@ -1,0 +1,93 @@
+use crate::{Gate, run};
+use flk_io::{MemShelf, MemSink, OutOfMemory, Words};
+use std::alloc::Global;
+use std::test::Fail;
+
+const CONFIGURATION: &[u8] =
+    b"LAB,DAQ,1999\r\n1,1A,0D\r\n1,U,A,,V,0.01,0,0,-32767,32767,1,1,P\r\n50\r\n1\r\n2400,4800\r\n12/03/2021,09:15:00.000000\r\n12/03/2021,09:15:00.000000\r\nBINARY\r\n1\r\n";
+
+/// A gate at which nothing is done.
+struct Open;
+
+impl Gate for Open {
+    fn enter(&self, phase: usize) {
+        let _ = phase;
+    }
+}
+
+// 4800 samples, in turn 24 of 230 V and 24 of -230 V.
+fn square_wave(alloc: Global) -> Result<Vec<u8>, OutOfMemory> {
+    let mut bytes = Vec::new(alloc);
+    for k in 0..4800u32 {
+        let value: i16 = if k / 24 % 2 == 0 { 23000 } else { -23000 };
+        bytes.extend_from_slice(&(k + 1).to_le_bytes())?;
+        bytes.extend_from_slice(&[0; 4])?;
+        bytes.extend_from_slice(&value.to_le_bytes())?;
+    }
+    Ok(bytes)
+}
+
+// The configuration X, another one Z with a line more, and the data Y.
+fn filled_shelf(alloc: Global) -> Result<MemShelf, OutOfMemory> {
+    let mut other = Vec::new(alloc);
+    other.extend_from_slice(CONFIGURATION)?;
+    other.extend_from_slice(b"0\r\n")?;
+    let mut shelf = MemShelf::new(alloc);
+    shelf.put("X", CONFIGURATION)?;
+    shelf.put("Z", &other)?;
+    shelf.put("Y", &square_wave(alloc)?)?;
+    Ok(shelf)
+}
+
+fn words_of(alloc: Global, line: &str) -> Result<Words, OutOfMemory> {
+    let mut words = Words::new(alloc);
+    for word in line.split_ascii_whitespace() {
+        words.push(word)?;
+    }
+    Ok(words)
+}
+
+const EXACT: &str =
+    "levels channel 1\nhalf-periods 199\nleast 1.000000000 to 1.000000000\ngreatest 1.000000000 to 1.000000000\n";
+
+const UNCERTAIN: &str =
+    "levels channel 1\nhalf-periods 199\nleast 0.999999995 to 1.000000004\ngreatest 0.999999995 to 1.000000004\n";
+
+#[test]
+fn each_answer(rt: HostRuntime) -> Result<(), Fail> {
+    for (line, status, text) in [
+        ("levels X Y 1 230000 0", 0, EXACT),
+        ("levels X Y 1 230000 1", 0, UNCERTAIN),
+        ("levels X Y 1 50000 0", 2, "fault range 1 1\n"),
+        ("levels Z Y 1 230000 0", 2, "fault notyet\n"),
+        ("levels X Y 2 230000 0", 2, "fault notyet\n"),
+        ("levels X X 1 230000 0", 2, "fault usage\n"),
+        ("tables 230/60", 2, "fault usage\n"),
+        ("", 2, "fault usage\n"),
+    ] {
+        let words = words_of(rt.alloc(), line)?;
+        let mut shelf = filled_shelf(rt.alloc())?;
+        let mut sink = MemSink::new(rt.alloc(), 200, 16)?;
+        let answered = run(&rt, rt.alloc(), &words, &mut shelf, &mut sink, &Open);
+        assert_eq!(rt; answered, status, "{line}");
+        assert_eq!(rt; sink.written(), text.as_bytes(), "{line}");
+    }
+    Ok(())
+}
+
+// The first read fails, and then the second write of 16 bytes.
+#[test]
+fn failures_are_told(rt: HostRuntime) -> Result<(), Fail> {
+    let words = words_of(rt.alloc(), "levels X Y 1 230000 0")?;
+    for (read, write, status, text) in [(1, 9, 4, "fault read\n"), (9, 2, 5, "levels channel 1")] {
+        let mut shelf = filled_shelf(rt.alloc())?;
+        shelf.fail_at(read)?;
+        let mut sink = MemSink::new(rt.alloc(), 200, 16)?;
+        sink.fail_at(write)?;
+        let answered = run(&rt, rt.alloc(), &words, &mut shelf, &mut sink, &Open);
+        assert_eq!(rt; answered, status);
+        assert_eq!(rt; sink.written(), text.as_bytes());
+        assert_eq!(rt; shelf.faults() + sink.faults(), 1);
+    }
+    Ok(())
+}
