@@ -3,7 +3,7 @@
 
 use flk_io::{FileShelf, StdSink, Words};
 use flk_top::{Gate, run};
-use std::alloc::{AllocError, Global};
+use std::alloc::Global;
 use std::process::ExitCode;
 use std::{env, io};
 

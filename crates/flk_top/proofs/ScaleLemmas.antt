@@ -2,7 +2,6 @@
 use Rattle.std.proofs.Common.{◌≡◌, ℕ, ◌+◌, ◌*◌, ◌/◌, ◌%◌, ◌^◌, ◌<◌, ◌≤◌, ℤ, pos, neg_ℤ, ◌+ℤ◌, ◌-ℤ◌, ◌*ℤ◌, ◌≤ℤ◌, ap, arith}
 use Rattle.std.specs.Prelude.{negsuc}
 use Rattle.std.specs.Int.RustNames.{unsigned_abs}
-use Rattle.std.proofs.Math.Nat.{mul-le-mul_right}
 use Rattle.std.proofs.lemmas.Int.{ints, by_lt_z, unsigned_abs-mul}
 use Rattle.std.proofs.lemmas.Nat.{mul-le, div-add-mod'}
 use Rattle.flk_exact.specs.Rounding.{IsFloor, IsCeil}
@@ -16,13 +15,13 @@ wide_quotient m d h less = quotient_below (m / d) (m % d) d m h (omega (arith, d
 pub wide_parts : (m d f g : ℕ) (z : ℤ) → f ≡ d → g ≡ d → z ≡ pos (m / f) → z *ℤ pos d +ℤ pos (m % g) ≡ pos m
 wide_parts m d f g z e k q = rw (q, e, k) (omega (arith, ints, div-add-mod' m d))
 
-product_small : (x : ℤ) (n k : ℕ) → unsigned_abs x ≤ k → unsigned_abs (x *ℤ pos n) ≤ k * n
-product_small x n k small = omega (arith, unsigned_abs-mul x (pos n), mul-le-mul_right n small)
+pub product_small : (x y : ℤ) (k l : ℕ) → unsigned_abs x ≤ k → unsigned_abs y ≤ l → unsigned_abs (x *ℤ y) ≤ k * l
+product_small x y k l small few = omega (arith, unsigned_abs-mul x y, mul-le _ _ _ _ small few)
 
 -- the quotient of a product with a rest is small
 pub carried_small : (x q : ℤ) (d n r k : ℕ) → 0 < d → n < d → r < d → unsigned_abs x ≤ k → q *ℤ pos d +ℤ pos r ≡ x *ℤ pos n → unsigned_abs q ≤ k
 carried_small x q d n r k some less rest small e =
-    let product = product_small x n k small in
+    let product = product_small x (pos n) k n small (omega arith) in
     let most : k * n ≤ k * d = omega (arith, mul-le k n k d (omega arith) (omega arith)) in
     let high : q ≤ℤ pos k = cancel_≤ q (pos k) d some (omega (arith, ints)) in
     let low : neg_ℤ (pos k) ≤ℤ q =

@@ -1,10 +1,10 @@
 -- What one more interval does to the extreme intervals of a list.
-use Rattle.std.proofs.Common.{◌≡◌, List, [], ◌∷◌, ◌++◌, ℤ, Some, None, arith}
+use Rattle.std.proofs.Common.{◌≡◌, List, [], ◌∷◌, ◌++◌, ℤ, Some, arith}
 use Rattle.std.specs.Int.{int_min, int_max}
 use Rattle.std.proofs.lemmas.Int.{ints, clamps, by_lt_z}
 use Rattle.std.proofs.lemmas.List.{map-append}
 use Rattle.flk_exact.specs.Extreme.{IsLeast, IsGreatest}
-use Rattle.flk_exact.proofs.ExtremeLemmas.{IsLeast-one, IsGreatest-one, IsLeast-stays, IsLeast-new, IsGreatest-stays, IsGreatest-new}
+use Rattle.flk_exact.proofs.ExtremeLemmas.{IsLeast-stays, IsLeast-new, IsGreatest-stays, IsGreatest-new}
 use Rattle.flk_num.specs.declared.interval.Interval.{Interval}
 use Rattle.flk_top.specs.Levels.{Widens}
 use Rattle.flk_top.specs.declared.measure.Extremes.{Extremes}
@@ -21,13 +21,6 @@ IsGreatest-max xs m x n e h =
     by_lt_z m x
     (λ less. let same : n ≡ x = omega (arith, ints, clamps, e) in rw same (IsGreatest-new xs m x h (omega (arith, ints))))
     (λ most. let same : n ≡ m = omega (arith, ints, clamps, e) in rw same (IsGreatest-stays xs m x h most))
-
-pub Widens-none : (v : Interval) (e : Extremes) → e ≡ record { least = v; greatest = v } → Widens None v e
-Widens-none v e same [] are = rw same record {
-  least_is = record { low = IsLeast-one v.lo; high = IsLeast-one v.hi };
-  greatest_is = record { low = IsGreatest-one v.lo; high = IsGreatest-one v.hi };
-}
-Widens-none v e same (h ∷ hs) are = absurd (omega (arith, are))
 
 pub Widens-some : (old : Extremes) (v : Interval) (new : Extremes) → new.least.lo ≡ int_min old.least.lo v.lo → new.least.hi ≡ int_min old.least.hi v.hi
     → new.greatest.lo ≡ int_max old.greatest.lo v.lo → new.greatest.hi ≡ int_max old.greatest.hi v.hi → Widens (Some old) v new

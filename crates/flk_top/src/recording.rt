@@ -42,8 +42,8 @@ fn is_good(bytes: &[u8], k: usize, before: u32, here: u32) -> bool
     value(bytes, k) != MISSING && (k == 0 || here.checked_sub(1) == Some(before))
 }
 
-/// Whether the bytes are so many records and no more, each with a value, and numbered one after the other. (IEEE C37.111-1999 marks
-/// a missing value by -32768, and begins the numbers at 1; here they may begin at any number.)
+/// Whether the bytes are so many records and no more, each with a value (IEEE C37.111-1999 marks a missing one by -32768), and
+/// numbered one after the other from any first number.
 pub fn is_recording(bytes: &[u8], records: usize) -> bool
     requires { records < 2 ^ 32 }
     ensures { IsTrue result ↔ IsRecording records bytes.now }

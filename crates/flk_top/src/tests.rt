@@ -79,7 +79,10 @@ fn each_answer(rt: HostRuntime) -> Result<(), Fail> {
 #[test]
 fn failures_are_told(rt: HostRuntime) -> Result<(), Fail> {
     let words = words_of(rt.alloc(), "levels X Y 1 230000 0")?;
-    for (read, write, status, text) in [(1, 9, 4, "fault read\n"), (9, 2, 5, "levels channel 1")] {
+    for (read, write, status, text, faults) in [
+        (1, 9, 4, "fault read\n", (1, 0)),
+        (9, 2, 5, "levels channel 1", (0, 1)),
+    ] {
         let mut shelf = filled_shelf(rt.alloc())?;
         shelf.fail_at(read)?;
         let mut sink = MemSink::new(rt.alloc(), 200, 16)?;
@@ -87,7 +90,7 @@ fn failures_are_told(rt: HostRuntime) -> Result<(), Fail> {
         let answered = run(&rt, rt.alloc(), &words, &mut shelf, &mut sink, &Open);
         assert_eq!(rt; answered, status);
         assert_eq!(rt; sink.written(), text.as_bytes());
-        assert_eq!(rt; shelf.faults() + sink.faults(), 1);
+        assert_eq!(rt; (shelf.faults(), sink.faults()), faults);
     }
     Ok(())
 }

@@ -1,4 +1,4 @@
-use Rattle.std.proofs.Common.{rules, ◌≡◌, ℕ}
+use Rattle.std.proofs.Common.{rules, ℕ}
 use Rattle.flk_cfg.specs.Plain.{IsPlain}
 use Rattle.flk_top.proofs.levels.plain_records.Goals as goal
 

@@ -18,4 +18,4 @@ returns-in_ok-text-in-Ok c =
 pub returns-in-Err : goal.returns-in-Err
 returns-in-Err c =
     let recording : IsRecording c.args.records c.args.bytes.now = search rules in
-    over_reply c.args.command.channel c.args.command.supply.nominal_mv c.args.command.supply.uncertainty_uv c.args.records c.args.bytes.now _ c.range_reply.result c.range_reply.ensures recording c.in-Err.ensures.over
+    over_reply c.args.command c.args.records c.args.bytes.now _ c.range_reply.result c.range_reply.ensures recording c.in-Err.ensures.over

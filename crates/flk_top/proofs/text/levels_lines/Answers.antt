@@ -1,5 +1,3 @@
-use Rattle.std.proofs.Common.{rules, ◌≡◌}
-use Rattle.flk_top.specs.Text.{levels_text}
 use Rattle.flk_top.proofs.text.levels_lines.Goals as goal
 
 pub returns-in-None : goal.returns-in-None

@@ -22,3 +22,9 @@ returns-clause-small c =
     let ends : IsVoltageInterval (nominal_of s) (uncertainty_of s) c.args.x c.interval.result = search rules in
     let within : 10 * unsigned_abs c.args.x ≤ 4 * s.supply.nominal_mv = search rules in
     voltage_small _ _ c.args.x _ (omega arith) (omega arith) (λ h. omega arith) ends
+
+pub returns-clause-interval : goal.returns-clause-interval
+returns-clause-interval c =
+    let s = c.args.self.now in
+    let ends : IsVoltageInterval (nominal_of s) (uncertainty_of s) c.args.x c.interval.result = search rules in
+    ends

@@ -1,4 +1,4 @@
-use Rattle.std.proofs.Common.{rules, ◌≡◌, ℕ, List, ◌++◌, ◌∷◌, ◌/◌, ◌%◌, ◌^◌, subst}
+use Rattle.std.proofs.Common.{◌≡◌, ℕ, List, ◌++◌, ◌∷◌, ◌/◌, ◌%◌, ◌^◌, subst}
 use Rattle.std.specs.Fmt.{HasWritten, decimal, styled_decimal}
 use Rattle.flk_top.specs.Text.{billionths}
 use Rattle.flk_top.proofs.Digits.{billionths_written}
