@@ -1,17 +1,17 @@
 -- Files that are accepted have one answer, which tells their levels.
-use Rattle.std.proofs.Common.{◌≡◌, ℕ, ◌^◌, ◌<◌, List, ◌++◌, sym, ◌∙◌, subst, arith}
+use Rattle.std.proofs.Common.{◌≡◌, ℕ, List, ◌++◌, sym, ◌∙◌, subst, arith}
 use Rattle.std.specs.Fmt.{decimal}
 use Rattle.std.proofs.lemmas.Fmt.{decimal_injective}
 use Rattle.std.proofs.lemmas.List.{append_cancel_left, append_cancel_right}
 use Rattle.flk_cfg.specs.Plain.{IsPlain, head, tail}
-use Rattle.flk_top.specs.Command.{IsNumberIn, IsLevels}
+use Rattle.flk_top.specs.Command.{IsNumberIn}
 use Rattle.flk_top.specs.Levels.{IsFirstOver, AreLevels}
 use Rattle.flk_top.specs.Text.{levels_text}
 use Rattle.flk_top.specs.Answer.{ArePlainFiles, IsDue, usage, notyet, range, measured, AreAccepted, samples_of}
 use Rattle.flk_top.specs.Headline.{TellsLevels}
 
 -- a word has one number
-one_number : (low high a b : ℕ) (word : List ℕ) (m n : ℕ) → IsNumberIn low high word m → IsNumberIn a b word n → m ≡ n
+pub one_number : (low high a b : ℕ) (word : List ℕ) (m n : ℕ) → IsNumberIn low high word m → IsNumberIn a b word n → m ≡ n
 one_number low high a b word m n h k = sym h.number.value ∙ k.number.value
 
 -- a plain configuration has one number of records

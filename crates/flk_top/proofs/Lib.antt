@@ -11,3 +11,4 @@ mod Words
 mod Digits
 mod Headline
 mod Replies
+mod OneAnswerLemmas

@@ -1,5 +1,5 @@
 -- From what was read and found to what is due.
-use Rattle.std.proofs.Common.{◌≡◌, ◌≢◌, ◌⊎◌, inl, inr, ℕ, ◌+◌, ◌*◌, ◌<◌, ◌≤◌, List, [], ◌∷◌, ◌++◌, length, length-append, zero, suc, ◌^◌, Option, Some, None, Result, Ok, Err, IfSome, IfOk, refl, sym, ◌∙◌, subst, string_bytes, arith}
+use Rattle.std.proofs.Common.{◌≡◌, ◌≢◌, ◌⊎◌, inl, inr, ℕ, ◌+◌, ◌*◌, ◌<◌, List, [], ◌∷◌, ◌++◌, length, length-append, zero, suc, ◌^◌, Option, Some, None, Result, Ok, Err, IfSome, IfOk, refl, sym, ◌∙◌, subst, string_bytes, arith}
 use Rattle.std.specs.Io.KnownBytes.{Consumes, IsAtEnd}
 use Rattle.std.proofs.lemmas.List.{append-nil}
 use Rattle.flk_io.specs.Causes.{Rose, OthersStay, AddsFront}
@@ -8,7 +8,7 @@ use Rattle.flk_cfg.proofs.Numerals.{small_plain}
 use Rattle.flk_top.specs.Recording.{IsRecording, samples, value_at}
 use Rattle.flk_top.specs.Levels.{IsFirstOver}
 use Rattle.flk_top.specs.Command.{IsLevels, configuration_name, data_name}
-use Rattle.flk_top.specs.Answer.{Tells, notyet_line, read_line, range_line, ArePlainFiles, IsDue, notyet, range, measured}
+use Rattle.flk_top.specs.Answer.{Tells, notyet_line, read_line, range_line, IsDue, notyet, range, measured}
 use Rattle.flk_top.specs.DataReply.{IsDueForData, other_data, over_range, within_range}
 use Rattle.flk_top.specs.declared.command.LevelsCommand.{LevelsCommand}
 use Rattle.flk_top.specs.declared.reply.Reply.{Reply}

@@ -3,6 +3,7 @@
 //! The words are those of a command (`command`). `levels` reads its two files (`levels`), takes the samples from the data
 //! (`recording`), turns each into the interval of its voltages (`scale`), cuts them into half-periods (`half`) and keeps the
 //! least and the greatest of their values (`measure`). The answer is composed whole (`text`, `reply`) before `run` writes it.
+//! That there is one answer, and that its promise speaks of some run, are laws (`laws`).
 #![tactic(auto)]
 
 ghost use Rattle.std.specs.Prelude.{◌≡◌, ◌≢◌, ◌⊎◌, ℕ, ◌<◌, List};
@@ -15,6 +16,7 @@ ghost use Rattle.flk_top.specs.Headline.{TellsLevels};
 
 mod command;
 mod half;
+mod laws;
 mod levels;
 mod measure;
 mod recording;
@@ -26,6 +28,7 @@ mod text;
 
 use crate::levels::answer;
 use flk_io::{Shelf, Sink, Words, write_all};
+pub use laws::{answer_is_one, promise_is_not_empty};
 pub use measure::{Extremes, Levels};
 use std::alloc::Global;
 use std::thread::Threads;

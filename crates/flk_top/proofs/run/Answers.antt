@@ -1,4 +1,4 @@
-use Rattle.std.proofs.Common.{rules, ◌≡◌, string_bytes}
+use Rattle.std.proofs.Common.{rules, string_bytes}
 use Rattle.std.specs.Io.KnownBytes.{Appends}
 use Rattle.flk_io.specs.Causes.{AddsFront}
 use Rattle.flk_top.proofs.Headline.{tells_levels}

@@ -1,6 +1,5 @@
-use Rattle.std.proofs.Common.{rules, ◌≡◌, ℕ, refl, string_bytes}
-use Rattle.flk_top.specs.Recording.{IsRecording, samples}
-use Rattle.flk_top.specs.Levels.{IsFirstOver}
+use Rattle.std.proofs.Common.{rules, ◌≡◌, refl, string_bytes}
+use Rattle.flk_top.specs.Recording.{IsRecording}
 use Rattle.flk_top.specs.Text.{levels_text}
 use Rattle.flk_top.specs.DataReply.{within_range}
 use Rattle.flk_top.proofs.Replies.{small_place, over_reply}

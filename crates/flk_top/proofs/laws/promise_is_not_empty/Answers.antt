@@ -1,0 +1,5 @@
+use Rattle.flk_top.proofs.OneAnswerLemmas.{some_run}
+use Rattle.flk_top.proofs.laws.promise_is_not_empty.Goals as goal
+
+pub returns : goal.returns
+returns c = some_run
