@@ -1,1 +1,13 @@
-pub mod Plain
+pub mod Kinds
+pub mod Dates
+pub mod Values
+pub mod Table
+pub mod Rows
+pub mod Places
+pub mod File
+pub mod Valid
+pub mod Canonical
+pub mod DateParts
+pub mod Reading
+pub mod Runs
+pub mod SettingParts

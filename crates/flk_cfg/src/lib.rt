@@ -1,9 +1,47 @@
-//! Configuration files of IEEE C37.111-1999 (COMTRADE): so far the plain one, in which the number of records alone is free.
+//! Configuration files of IEEE C37.111-1999 (COMTRADE).
+//!
+//! [`read_cfg`] reads a whole file: it answers the configuration that the bytes write, or their first fault. What a configuration
+//! is stands in `specs/`: `Values` and `Dates` say which field writes which value, `Table` has the set of each field and the rows,
+//! `Rows` the rows with their values, `Places` the lines by their place, and `File` the file and its first fault. The functions of
+//! [`laws`] have empty bodies: their contracts are laws of these definitions.
+//!
+//! Each line is cut into its fields once, and each field is read once.
 #![tactic(auto)]
 
-mod plain;
+mod analog;
+mod canonical_laws;
+mod columns;
+mod config;
+mod counts;
+mod date;
+mod digital;
+mod fields;
+mod file;
+mod judges;
+mod kind;
+mod last;
+mod laws;
+mod push;
+mod reader;
+mod settings;
+mod title;
+mod valid;
+mod write;
 
-pub use plain::{Plain, read_plain};
+pub use canonical_laws::{
+    canonical_text_writes_its_configuration, values_of_a_file_are_valid, written_text_is_read_back,
+};
+pub use config::{Analog, Config, Digital, Form, Stamp};
+pub use file::read_cfg;
+pub use kind::{CfgFault, Fault, Kind};
+pub use laws::{
+    bytes_have_one_configuration, bytes_have_one_first_fault,
+    bytes_of_a_configuration_have_no_fault,
+};
+pub use valid::valid_cfg;
+pub use write::write_cfg;
 
 #[cfg(test)]
 mod tests;
+#[cfg(test)]
+mod write_tests;

@@ -1,9 +1,11 @@
--- The least and the greatest of a list: each is one, and what one more number does to it.
+-- The least and the greatest of a list: each is one, what one more number does to it, and that it follows the order of two lists.
 use Rattle.std.proofs.Common.{◌≡◌, ◌<◌, List, [], ◌∷◌, ◌++◌, length, ℤ, ◌≤ℤ◌, refl, arith}
-use Rattle.std.specs.List.{Contains}
-use Rattle.std.proofs.lemmas.Int.{ints, by_lt_z}
+use Rattle.std.specs.Int.{int_min, int_max}
+use Rattle.std.specs.List.{AllZip, Contains}
+use Rattle.std.proofs.lemmas.Int.{ints, clamps, by_lt_z}
 use Rattle.std.proofs.lemmas.List.Elements.{All-cons, All-nil, All-push, All-weaker, All-contains, Contains-append_left, Contains-append_right, Contains-push}
 use Rattle.flk_exact.specs.Extreme.{IsLeast, IsGreatest}
+use Rattle.flk_exact.proofs.ListLemmas.{AllZip-length, AllZip-get_or}
 
 pub least_unique : (xs : List ℤ) (m n : ℤ) → IsLeast xs m → IsLeast xs n → m ≡ n
 least_unique xs m n h k =
@@ -37,6 +39,19 @@ IsGreatest-new xs m x h low = record {
   among = Contains-push xs x;
   at_least = All-push (λ y. y ≤ℤ x) xs x (All-weaker (λ y. y ≤ℤ m) (λ y. y ≤ℤ x) (λ y k. omega (arith, ints)) xs h.at_least) (omega (arith, ints));
 }
+
+-- the least of a list with one more number is the lesser of the two
+pub IsLeast-min : (xs : List ℤ) (m x n : ℤ) → n ≡ int_min m x → IsLeast xs m → IsLeast (xs ++ x ∷ []) n
+IsLeast-min xs m x n e h =
+    by_lt_z x m
+    (λ less. let same : n ≡ x = omega (arith, ints, clamps, e) in rw same (IsLeast-new xs m x h (omega (arith, ints))))
+    (λ most. let same : n ≡ m = omega (arith, ints, clamps, e) in rw same (IsLeast-stays xs m x h most))
+
+pub IsGreatest-max : (xs : List ℤ) (m x n : ℤ) → n ≡ int_max m x → IsGreatest xs m → IsGreatest (xs ++ x ∷ []) n
+IsGreatest-max xs m x n e h =
+    by_lt_z m x
+    (λ less. let same : n ≡ x = omega (arith, ints, clamps, e) in rw same (IsGreatest-new xs m x h (omega (arith, ints))))
+    (λ most. let same : n ≡ m = omega (arith, ints, clamps, e) in rw same (IsGreatest-stays xs m x h most))
 
 Contains-behind : (x m : ℤ) (xs : List ℤ) → Contains xs m → Contains (x ∷ xs) m
 Contains-behind x m xs h = Contains-append_right (x ∷ []) xs m h
@@ -82,3 +97,16 @@ greatest_exists (x ∷ (y ∷ ys)) some =
         at_least = All-cons (λ z. z ≤ℤ rest.0) x (y ∷ ys) most rest.1.at_least;
       },
     ))
+
+-- where each number is at most its fellow, so are the extremes
+pub least_≤ : (xs ys : List ℤ) (m n : ℤ) → AllZip ◌≤ℤ◌ xs ys → IsLeast xs m → IsLeast ys n → m ≤ℤ n
+least_≤ xs ys m n h low high =
+    let k = high.among.0 in
+    let less : k < length xs = omega (arith, AllZip-length ◌≤ℤ◌ xs ys h, high.among.1) in
+    omega (arith, ints, low.at_most k m less, AllZip-get_or ◌≤ℤ◌ xs ys k m n h less, high.among.2)
+
+pub greatest_≤ : (xs ys : List ℤ) (m n : ℤ) → AllZip ◌≤ℤ◌ xs ys → IsGreatest xs m → IsGreatest ys n → m ≤ℤ n
+greatest_≤ xs ys m n h low high =
+    let k = low.among.0 in
+    let less : k < length ys = omega (arith, AllZip-length ◌≤ℤ◌ xs ys h, low.among.1) in
+    omega (arith, ints, high.at_least k n less, AllZip-get_or ◌≤ℤ◌ xs ys k m n h low.among.1, low.among.2)

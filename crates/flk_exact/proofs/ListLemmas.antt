@@ -101,6 +101,13 @@ pub AllZip-made : {A B : Type 0} (R : A → B → Type 0) (f : A → B) → ((x 
 AllZip-made R f h [] = tt
 AllZip-made R f h (x ∷ xs) = (h x, AllZip-made R f h xs)
 
+-- a list made of another stands beside a third as the other does
+pub AllZip-from_map : {A B C : Type 0} (R : B → C → Type 0) (f : A → B) (xs : List A) (ys : List C) → AllZip R (map f xs) ys → AllZip (λ x y. R (f x) y) xs ys
+AllZip-from_map R f [] [] h = tt
+AllZip-from_map R f [] (y ∷ ys) h = absurd h
+AllZip-from_map R f (x ∷ xs) [] h = absurd h
+AllZip-from_map R f (x ∷ xs) (y ∷ ys) h = (h.0, AllZip-from_map R f xs ys h.1)
+
 -- a part of a list stays as it is where the list goes on
 pub slice_range-append : {A : Type 0} (s p : ℕ) (xs ys : List A) → p ≤ length xs → slice_range (xs ++ ys) s p ≡ slice_range xs s p
 slice_range-append s p xs ys h =

@@ -1,2 +1,3 @@
 pub mod Interval
 pub mod Square
+pub mod Lamp

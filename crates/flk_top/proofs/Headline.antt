@@ -1,34 +1,40 @@
 -- Files that are accepted have one answer, which tells their levels.
-use Rattle.std.proofs.Common.{◌≡◌, ℕ, List, ◌++◌, sym, ◌∙◌, subst, arith}
-use Rattle.std.specs.Fmt.{decimal}
-use Rattle.std.proofs.lemmas.Fmt.{decimal_injective}
-use Rattle.std.proofs.lemmas.List.{append_cancel_left, append_cancel_right}
-use Rattle.flk_cfg.specs.Plain.{IsPlain, head, tail}
-use Rattle.flk_top.specs.Command.{IsNumberIn}
+use Rattle.std.proofs.Common.{◌≡◌, ℕ, List, sym, ap, ◌∙◌, subst, arith}
+use Rattle.flk_cfg.specs.declared.config.Config.{Config}
+use Rattle.flk_cfg.proofs.ConfigLaws.{one_config, config_or_fault}
+use Rattle.flk_top.specs.Command.{IsNumberIn, configuration_name}
 use Rattle.flk_top.specs.Levels.{IsFirstOver, AreLevels}
 use Rattle.flk_top.specs.Text.{levels_text}
-use Rattle.flk_top.specs.Answer.{ArePlainFiles, IsDue, usage, notyet, range, measured, AreAccepted, samples_of}
+use Rattle.flk_top.specs.Answer.{ArePlainFiles, IsDue, usage, long_configuration, configuration_fault, notyet, range, measured, AreAccepted, samples_of}
 use Rattle.flk_top.specs.Headline.{TellsLevels}
 
 -- a word has one number
 pub one_number : (low high a b : ℕ) (word : List ℕ) (m n : ℕ) → IsNumberIn low high word m → IsNumberIn a b word n → m ≡ n
 one_number low high a b word m n h k = sym h.number.value ∙ k.number.value
 
--- a plain configuration has one number of records
-pub one_count : (bytes : List ℕ) (m n : ℕ) → IsPlain bytes m → IsPlain bytes n → m ≡ n
-one_count bytes m n h k =
-    let both : head ++ (decimal m ++ tail) ≡ head ++ (decimal n ++ tail) = sym h.text ∙ k.text in
-    decimal_injective m n (omega (arith, h.few)) (omega (arith, k.few))
-    (append_cancel_right (decimal m) (decimal n) tail (append_cancel_left head (decimal m ++ tail) (decimal n ++ tail) both))
+-- the words have one channel, for which the files are of the form that is read so far or not
+pub plain_for : (words : List (List ℕ)) (files : List ℕ → List ℕ) (low high a b : ℕ) (word : List ℕ) (channel other n : ℕ) → IsNumberIn low high word channel → IsNumberIn a b word other
+    → ArePlainFiles words files channel n → ArePlainFiles words files other n
+plain_for words files low high a b word channel other n h k plain =
+    let P : ℕ → Type 0 = λ c. ArePlainFiles words files c n in
+    subst P (one_number low high a b word channel other h k) plain
+
+-- the files have one number of records
+pub one_count : (words : List (List ℕ)) (files : List ℕ → List ℕ) (c d m n : ℕ) → ArePlainFiles words files c m → ArePlainFiles words files d n → m ≡ n
+one_count words files c d m n h k =
+    let same = one_config (files (configuration_name words)) h.config k.config h.configuration.writes k.configuration.writes in
+    h.records ∙ ap (λ (x : Config). x.endsamp) same ∙ sym k.records
 
 pub tells_levels : (words : List (List ℕ)) (files : List ℕ → List ℕ) (channel nominal uncertainty n : ℕ) (s : ℕ) (t : List ℕ) → AreAccepted words files channel nominal uncertainty n
     → IsDue words files s t → TellsLevels channel nominal uncertainty (samples_of words files n) s t
 tells_levels words files channel nominal uncertainty n s t h (usage none status text) = absurd (none channel nominal uncertainty h.asks)
-tells_levels words files channel nominal uncertainty n s t h (notyet c v u asks none status text) =
-    let P : ℕ → Type 0 = λ k. ArePlainFiles words files k n in
-    absurd (none n (subst P (one_number _ _ _ _ _ channel c h.asks.channel_word asks.channel_word) h.plain))
+tells_levels words files channel nominal uncertainty n s t h (long_configuration c v u asks long status text) = absurd (omega (arith, long, h.plain.configuration.small))
+tells_levels words files channel nominal uncertainty n s t h (configuration_fault c v u line field kind asks small fault status text) =
+    absurd (config_or_fault (files (configuration_name words)) h.plain.config line field kind h.plain.configuration.writes fault)
+tells_levels words files channel nominal uncertainty n s t h (notyet c v u config asks is none status text) =
+    absurd (none n (plain_for words files _ _ _ _ _ channel c n h.asks.channel_word asks.channel_word h.plain))
 tells_levels words files channel nominal uncertainty n s t h (range c v u m i asks plain first status text) =
-    let count = one_count _ m n plain.configuration h.plain.configuration in
+    let count = one_count words files c channel m n plain h.plain in
     let P : ℕ → Type 0 = λ k. IsFirstOver k (samples_of words files m) i in
     let Q : ℕ → Type 0 = λ k. IsFirstOver nominal (samples_of words files k) i in
     let same = subst Q count (subst P (one_number _ _ _ _ _ v nominal asks.nominal_word h.asks.nominal_word) first) in
@@ -40,7 +46,7 @@ tells_levels words files channel nominal uncertainty n s t h (measured c v u m l
     let T : ℕ → Type 0 = λ k. t ≡ levels_text k levels in
     record {
       levels = levels;
-      are_levels = subst R (one_count _ m n plain.configuration h.plain.configuration)
+      are_levels = subst R (one_count words files c channel m n plain h.plain)
           (subst Q (one_number _ _ _ _ _ u uncertainty asks.uncertainty_word h.asks.uncertainty_word)
           (subst P (one_number _ _ _ _ _ v nominal asks.nominal_word h.asks.nominal_word) are));
       status_is = status;

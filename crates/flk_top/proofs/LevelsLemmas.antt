@@ -14,8 +14,9 @@ use Rattle.flk_exact.specs.HalfPeriod.{IsHalfPeriodValue, AreHalfPeriodValues, h
 use Rattle.flk_exact.specs.Extreme.{IsLeast, IsGreatest}
 use Rattle.flk_exact.proofs.WholeLemmas.{atom, nat, plus_is, times_is, from_at_most, scale_≤}
 use Rattle.flk_exact.proofs.FractionLemmas.{≤ℚ-trans}
-use Rattle.flk_exact.proofs.ListLemmas.{AllZip-length, AllZip-get_or, AllZip-joined}
+use Rattle.flk_exact.proofs.ListLemmas.{AllZip-length, AllZip-joined, AllZip-from_map}
 use Rattle.flk_exact.proofs.CutLemmas.{AllZip-half_periods, length-half_periods, few_samples}
+use Rattle.flk_exact.proofs.ExtremeLemmas.{least_≤, greatest_≤}
 use Rattle.flk_num.specs.declared.interval.Interval.{Interval}
 use Rattle.flk_num.specs.Interval.{Holds, HoldEach, IsNarrow}
 use Rattle.flk_num.specs.Square.{least_squares}
@@ -26,28 +27,6 @@ use Rattle.flk_top.specs.declared.measure.Extremes.{Extremes}
 use Rattle.flk_top.proofs.VoltageLemmas.{voltage_holds, voltage_narrow}
 use Rattle.flk_top.proofs.EnclosureLemmas.{IsValueAt-natural, half_period_holds}
 use Rattle.flk_top.proofs.WidthLemmas.{half_period_narrow}
-
--- ---- lists
-
--- a list made of another stands beside a third as the other does
-AllZip-from_map : {A B C : Type 0} (R : B → C → Type 0) (f : A → B) (xs : List A) (ys : List C) → AllZip R (map f xs) ys → AllZip (λ x y. R (f x) y) xs ys
-AllZip-from_map R f [] [] h = tt
-AllZip-from_map R f [] (y ∷ ys) h = absurd h
-AllZip-from_map R f (x ∷ xs) [] h = absurd h
-AllZip-from_map R f (x ∷ xs) (y ∷ ys) h = (h.0, AllZip-from_map R f xs ys h.1)
-
--- where each number is at most its fellow, so are the extremes
-least_≤ : (xs ys : List ℤ) (m n : ℤ) → AllZip ◌≤ℤ◌ xs ys → IsLeast xs m → IsLeast ys n → m ≤ℤ n
-least_≤ xs ys m n h low high =
-    let k = high.among.0 in
-    let less : k < length xs = omega (arith, AllZip-length ◌≤ℤ◌ xs ys h, high.among.1) in
-    omega (arith, ints, low.at_most k m less, AllZip-get_or ◌≤ℤ◌ xs ys k m n h less, high.among.2)
-
-greatest_≤ : (xs ys : List ℤ) (m n : ℤ) → AllZip ◌≤ℤ◌ xs ys → IsGreatest xs m → IsGreatest ys n → m ≤ℤ n
-greatest_≤ xs ys m n h low high =
-    let k = low.among.0 in
-    let less : k < length ys = omega (arith, AllZip-length ◌≤ℤ◌ xs ys h, low.among.1) in
-    omega (arith, ints, high.at_least k n less, AllZip-get_or ◌≤ℤ◌ xs ys k m n h low.among.1, low.among.2)
 
 -- ---- every run
 

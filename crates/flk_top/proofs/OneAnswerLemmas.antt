@@ -21,15 +21,21 @@ use Rattle.flk_exact.proofs.HalfPeriodLemmas.{values_exist, values_length}
 use Rattle.flk_exact.proofs.ExtremeLemmas.{least_unique, greatest_unique, least_exists, greatest_exists}
 use Rattle.flk_num.specs.declared.interval.Interval.{Interval}
 use Rattle.flk_num.specs.Square.{least_size, greatest_size, least_squares, greatest_squares}
-use Rattle.flk_top.specs.Command.{IsLevels}
+use Rattle.flk_cfg.specs.Kinds.{kind_number}
+use Rattle.flk_cfg.specs.File.{IsFirstFault}
+use Rattle.flk_cfg.specs.declared.config.Config.{Config}
+use Rattle.flk_cfg.specs.declared.kind.Kind.{Kind}
+use Rattle.flk_cfg.proofs.LineLaws.{one_first_fault}
+use Rattle.flk_cfg.proofs.ConfigLaws.{config_or_fault}
+use Rattle.flk_top.specs.Command.{IsLevels, IsNoCommand, configuration_name}
 use Rattle.flk_top.specs.Voltage.{recorded_voltage, IsVoltageInterval}
 use Rattle.flk_top.specs.Cutter.{IsValueAt, IsHalfPeriodInterval}
 use Rattle.flk_top.specs.Levels.{IsFirstOver, IsWithinRange, IsExtremeInterval, AreExtremes, AreExtremesIfAny, AreLevels}
 use Rattle.flk_top.specs.Text.{extremes_text, levels_text}
-use Rattle.flk_top.specs.Answer.{range_line, ArePlainFiles, IsDue, usage, notyet, range, measured, samples_of}
+use Rattle.flk_top.specs.Answer.{usage_line, configuration_line, range_line, IsConfiguration, ArePlainFiles, IsDue, usage, long_configuration, configuration_fault, notyet, range, measured, samples_of}
 use Rattle.flk_top.specs.declared.measure.Levels.{Levels}
 use Rattle.flk_top.specs.declared.measure.Extremes.{Extremes}
-use Rattle.flk_top.proofs.Headline.{one_number, one_count, tells_levels}
+use Rattle.flk_top.proofs.Headline.{one_number, plain_for, one_count, tells_levels}
 
 -- ---- the ends of intervals
 
@@ -147,9 +153,7 @@ levels_text_same channel half nominal uncertainty samples a b h k =
 
 -- files that are plain for no number of records are not plain for one, since the words have one channel
 never_plain : (words : List (List ℕ)) (files : List ℕ → List ℕ) (c v u d w z n : ℕ) → IsLevels words c v u → ((m : ℕ) → ¬ ArePlainFiles words files c m) → IsLevels words d w z → ¬ ArePlainFiles words files d n
-never_plain words files c v u d w z n asks none that plain =
-    let P : ℕ → Type 0 = λ k. ArePlainFiles words files k n in
-    none n (subst P (one_number _ _ _ _ _ d c that.channel_word asks.channel_word) plain)
+never_plain words files c v u d w z n asks none that plain = none n (plain_for words files _ _ _ _ _ d c n that.channel_word asks.channel_word plain)
 
 first_over_unique : (nominal : ℕ) (samples : List ℤ) (i j : ℕ) → IsFirstOver nominal samples i → IsFirstOver nominal samples j → i ≡ j
 first_over_unique nominal samples i j h k =
@@ -165,7 +169,7 @@ place_same words files c v u m i d w z n j asks plain first that whole front =
     let P : ℕ → Type 0 = λ k. IsFirstOver k (samples_of words files m) i in
     let Q : ℕ → Type 0 = λ k. IsFirstOver w (samples_of words files k) i in
     first_over_unique w (samples_of words files n) i j
-    (subst Q (one_count _ m n plain.configuration whole.configuration) (subst P (one_number _ _ _ _ _ v w asks.nominal_word that.nominal_word) first)) front
+    (subst Q (one_count words files c d m n plain whole) (subst P (one_number _ _ _ _ _ v w asks.nominal_word that.nominal_word) first)) front
 
 -- beside levels nothing else is due
 beside_levels : (words : List (List ℕ)) (files : List ℕ → List ℕ) (s t : ℕ) (xs ys : List ℕ) (c v u n : ℕ) (levels : Levels) → IsLevels words c v u → ArePlainFiles words files c n → IsWithinRange v (samples_of words files n)
@@ -181,20 +185,56 @@ flipped h = (sym h.0, sym h.1)
 agreed : {s t n : ℕ} {xs ys zs : List ℕ} → s ≡ n → xs ≡ zs → t ≡ n → ys ≡ zs → (s ≡ t) × (xs ≡ ys)
 agreed status text number line = (status ∙ sym number, text ∙ sym line)
 
+-- beside words of no command nothing else is due
+beside_usage : (words : List (List ℕ)) (files : List ℕ → List ℕ) (s t : ℕ) (xs ys : List ℕ) → IsNoCommand words → s ≡ 2 → xs ≡ usage_line → IsDue words files t ys → (s ≡ t) × (xs ≡ ys)
+beside_usage words files s t xs ys none status text (usage never number line) = agreed status text number line
+beside_usage words files s t xs ys none status text (long_configuration c v u asks long number line) = absurd (none c v u asks)
+beside_usage words files s t xs ys none status text (configuration_fault c v u l f k asks small fault number line) = absurd (none c v u asks)
+beside_usage words files s t xs ys none status text (notyet c v u config asks is other number line) = absurd (none c v u asks)
+beside_usage words files s t xs ys none status text (range c v u n i asks plain first number line) = absurd (none c v u asks)
+beside_usage words files s t xs ys none status text (measured c v u n levels asks plain within are number line) = absurd (none c v u asks)
+
+-- the first fault of a configuration has one text
+fault_same : (bytes : List ℕ) (l f : ℕ) (k : Kind) (m g : ℕ) (h : Kind) → IsFirstFault bytes l f k → IsFirstFault bytes m g h
+    → configuration_line l f (kind_number k) ≡ configuration_line m g (kind_number h)
+fault_same bytes l f k m g h one other =
+    let same = one_first_fault bytes l m f g k h one other in
+    rw (same.0, same.1, same.2) refl
+
+-- a configuration has no first fault
+never_faulty : (bytes : List ℕ) (c : Config) (l f : ℕ) (k : Kind) → IsConfiguration bytes c → IsFirstFault bytes l f k → ⊥
+never_faulty bytes c l f k is fault = config_or_fault bytes c l f k is.writes fault
+
 pub one_answer : (words : List (List ℕ)) (files : List ℕ → List ℕ) (s t : ℕ) (xs ys : List ℕ) → IsDue words files s xs → IsDue words files t ys → (s ≡ t) × (xs ≡ ys)
 one_answer words files s t xs ys (measured c v u n levels asks plain within are status text) due =
     beside_levels words files s t xs ys c v u n levels asks plain within are status text due
 one_answer words files s t xs ys due (measured c v u n levels asks plain within are status text) =
     flipped (beside_levels words files t s ys xs c v u n levels asks plain within are status text due)
-one_answer words files s t xs ys (usage none status text) (usage never number line) = agreed status text number line
-one_answer words files s t xs ys (usage none status text) (notyet c v u asks other number line) = absurd (none c v u asks)
-one_answer words files s t xs ys (usage none status text) (range c v u n i asks plain first number line) = absurd (none c v u asks)
-one_answer words files s t xs ys (notyet c v u asks other status text) (usage none number line) = absurd (none c v u asks)
-one_answer words files s t xs ys (notyet c v u asks other status text) (notyet d w z that others number line) = agreed status text number line
-one_answer words files s t xs ys (notyet c v u asks other status text) (range d w z n i that plain first number line) =
+one_answer words files s t xs ys (usage none status text) due = beside_usage words files s t xs ys none status text due
+one_answer words files s t xs ys due (usage none status text) = flipped (beside_usage words files t s ys xs none status text due)
+one_answer words files s t xs ys (long_configuration c v u asks long status text) (long_configuration d w z that more number line) = agreed status text number line
+one_answer words files s t xs ys (long_configuration c v u asks long status text) (configuration_fault d w z m g h that small fault number line) = absurd (omega arith)
+one_answer words files s t xs ys (long_configuration c v u asks long status text) (notyet d w z config that is other number line) = absurd (omega (arith, long, is.small))
+one_answer words files s t xs ys (long_configuration c v u asks long status text) (range d w z n i that plain first number line) =
+    absurd (omega (arith, long, plain.configuration.small))
+one_answer words files s t xs ys (configuration_fault c v u l f k asks small fault status text) (long_configuration d w z that more number line) = absurd (omega arith)
+one_answer words files s t xs ys (configuration_fault c v u l f k asks small fault status text) (configuration_fault d w z m g h that few other number line) =
+    agreed status text number (line ∙ fault_same (files (configuration_name words)) m g h l f k other fault)
+one_answer words files s t xs ys (configuration_fault c v u l f k asks small fault status text) (notyet d w z config that is other number line) =
+    absurd (never_faulty (files (configuration_name words)) config l f k is fault)
+one_answer words files s t xs ys (configuration_fault c v u l f k asks small fault status text) (range d w z n i that plain first number line) =
+    absurd (never_faulty (files (configuration_name words)) plain.config l f k plain.configuration fault)
+one_answer words files s t xs ys (notyet c v u config asks is other status text) (long_configuration d w z that more number line) = absurd (omega (arith, more, is.small))
+one_answer words files s t xs ys (notyet c v u config asks is other status text) (configuration_fault d w z l f k that small fault number line) =
+    absurd (never_faulty (files (configuration_name words)) config l f k is fault)
+one_answer words files s t xs ys (notyet c v u config asks is other status text) (notyet d w z same that are others number line) = agreed status text number line
+one_answer words files s t xs ys (notyet c v u config asks is other status text) (range d w z n i that plain first number line) =
     absurd (never_plain words files c v u d w z n asks other that plain)
-one_answer words files s t xs ys (range c v u n i asks plain first status text) (usage none number line) = absurd (none c v u asks)
-one_answer words files s t xs ys (range c v u n i asks plain first status text) (notyet d w z that other number line) =
+one_answer words files s t xs ys (range c v u n i asks plain first status text) (long_configuration d w z that more number line) =
+    absurd (omega (arith, more, plain.configuration.small))
+one_answer words files s t xs ys (range c v u n i asks plain first status text) (configuration_fault d w z l f k that small fault number line) =
+    absurd (never_faulty (files (configuration_name words)) plain.config l f k plain.configuration fault)
+one_answer words files s t xs ys (range c v u n i asks plain first status text) (notyet d w z config that is other number line) =
     absurd (never_plain words files d w z c v u n that other asks plain)
 one_answer words files s t xs ys (range c v u m i asks plain first status text) (range d w z n j that whole front number line) =
     let same = place_same words files c v u m i d w z n j asks plain first that whole front in

@@ -1,18 +1,21 @@
 -- From what was read and found to what is due.
-use Rattle.std.proofs.Common.{◌≡◌, ◌≢◌, ◌⊎◌, inl, inr, ℕ, ◌+◌, ◌*◌, ◌<◌, List, [], ◌∷◌, ◌++◌, length, length-append, zero, suc, ◌^◌, Option, Some, None, Result, Ok, Err, IfSome, IfOk, refl, sym, ◌∙◌, subst, string_bytes, arith}
+use Rattle.std.proofs.Common.{◌≡◌, ◌≢◌, ◌⊎◌, inl, inr, ℕ, ◌+◌, ◌*◌, ◌<◌, ◌≤◌, List, [], ◌++◌, length, ◌^◌, Option, Some, None, Result, Ok, Err, IfSome, IfOk, sym, ap, ◌∙◌, subst, string_bytes, arith}
 use Rattle.std.specs.Io.KnownBytes.{Consumes, IsAtEnd}
 use Rattle.std.proofs.lemmas.List.{append-nil}
 use Rattle.flk_io.specs.Causes.{Rose, OthersStay, AddsFront}
-use Rattle.flk_cfg.specs.Plain.{IsPlain}
-use Rattle.flk_cfg.proofs.Numerals.{small_plain}
-use Rattle.flk_top.specs.Recording.{IsRecording, samples, value_at}
+use Rattle.flk_num.specs.declared.stop.Stop.TheVariants.{Fault}
+use Rattle.flk_cfg.specs.File.{IsConfig, IsFirstFault, IsFileAnswer}
+use Rattle.flk_cfg.specs.declared.config.Config.{Config}
+use Rattle.flk_cfg.specs.declared.kind.CfgFault.{CfgFault}
+use Rattle.flk_cfg.proofs.ConfigLaws.{one_config}
+use Rattle.flk_top.specs.Recording.{IsRecording, samples}
 use Rattle.flk_top.specs.Levels.{IsFirstOver}
 use Rattle.flk_top.specs.Command.{IsLevels, configuration_name, data_name}
-use Rattle.flk_top.specs.Answer.{Tells, notyet_line, read_line, range_line, IsDue, notyet, range, measured}
+use Rattle.flk_top.specs.Answer.{Tells, notyet_line, read_line, configuration_line, range_line, configuration_limit, IsConfiguration, IsReadSoFar, IsDue, long_configuration, configuration_fault, notyet, range, measured}
 use Rattle.flk_top.specs.DataReply.{IsDueForData, other_data, over_range, within_range}
 use Rattle.flk_top.specs.declared.command.LevelsCommand.{LevelsCommand}
 use Rattle.flk_top.specs.declared.reply.Reply.{Reply}
-use Rattle.flk_top.proofs.Headline.{one_count}
+use Rattle.flk_top.proofs.RecordingLemmas.{length-samples}
 
 -- the words ask for these levels
 abbrev pub Asks : List (List ℕ) → LevelsCommand → Type 0
@@ -44,10 +47,6 @@ pub said : {E : Type 0} (status : ℕ) (line : List ℕ) (words : List (List ℕ
 said status line words left (Ok x) h due = λ fine files tells. due files tells x.status (string_bytes x.text) h.0 h.1
 said status line words left (Err e) h due = tt
 
-length-samples : (bytes : List ℕ) (n : ℕ) → length (samples bytes n) ≡ n
-length-samples bytes zero = refl
-length-samples bytes (suc n) = omega (arith, length-append (samples bytes n) (value_at bytes n ∷ []), length-samples bytes n)
-
 -- a sample that is there has a small place
 pub small_place : (nominal : ℕ) (bytes : List ℕ) (n i : ℕ) → n < 2 ^ 32 → IsFirstOver nominal (samples bytes n) i → i < 2 ^ 32
 small_place nominal bytes n i few first = omega (arith, few, length-samples bytes n, first.there)
@@ -59,56 +58,91 @@ pub over_reply : {E : Type 0} (command : LevelsCommand) (n : ℕ) (bytes : List 
 over_reply command n bytes i (Ok x) h recording first = over_range i recording first h.0 h.1
 over_reply command n bytes i (Err e) h recording first = tt
 
--- a configuration too long to be plain
-pub long_configuration : (words : List (List ℕ)) (command : LevelsCommand) (left : List ℕ → Option (List ℕ)) → Asks words command
-    → IfSome (left (configuration_name words)) (λ bytes. 1048576 < length bytes)
-    → (files : List ℕ → List ℕ) → Tells left files → (s : ℕ) (t : List ℕ) → s ≡ 2 → t ≡ notyet_line → IsDue words files s t
-long_configuration words command left asks long files tells s t status text =
+-- a configuration above the limit
+pub too_long : (words : List (List ℕ)) (command : LevelsCommand) (left : List ℕ → Option (List ℕ)) → Asks words command
+    → IfSome (left (configuration_name words)) (λ bytes. configuration_limit < length bytes)
+    → (files : List ℕ → List ℕ) → Tells left files → (s : ℕ) (t : List ℕ) → s ≡ 2 → t ≡ configuration_line 0 0 8 → IsDue words files s t
+too_long words command left asks long files tells s t status text =
     let name = configuration_name words in
-    let more = told_long (left name) (files name) 1048576 (tells name) long in
-    notyet command.channel command.supply.nominal_mv command.supply.uncertainty_uv asks (λ n plain. let few = small_plain (files name) n plain.configuration in absurd (omega (arith, few, more))) status text
+    long_configuration command.channel command.supply.nominal_mv command.supply.uncertainty_uv asks (told_long (left name) (files name) configuration_limit (tells name) long) status text
 
--- another configuration, or another channel than its one
-pub other_read : (words : List (List ℕ)) (command : LevelsCommand) (left after : List ℕ → Option (List ℕ)) (bytes : List ℕ) → Asks words command
-    → Consumes (left (configuration_name words)) (after (configuration_name words)) bytes → IsAtEnd (after (configuration_name words))
-    → ((n : ℕ) → command.channel ≡ 1 → ¬ IsPlain bytes n)
-    → (files : List ℕ → List ℕ) → Tells left files → (s : ℕ) (t : List ℕ) → s ≡ 2 → t ≡ notyet_line → IsDue words files s t
-other_read words command left after bytes asks took end none files tells s t status text =
-    let name = configuration_name words in
-    let same = whole_read (left name) (after name) (files name) bytes (tells name) took end in
-    notyet command.channel command.supply.nominal_mv command.supply.uncertainty_uv asks (λ n plain. none n plain.only_channel (rw same plain.configuration)) status text
-
--- The words ask for the one channel of a configuration that was read, and is plain.
-pub record WasRead (words : List (List ℕ)) (command : LevelsCommand) (left after : List ℕ → Option (List ℕ)) (bytes : List ℕ) (n : ℕ) : Type 0 where
+-- The words ask for levels, and these are the bytes under the configuration's name, which were read.
+pub record WasRead (words : List (List ℕ)) (command : LevelsCommand) (left after : List ℕ → Option (List ℕ)) (bytes : List ℕ) : Type 0 where
   pub asks : Asks words command
   pub took : Consumes (left (configuration_name words)) (after (configuration_name words)) bytes
   pub end : IsAtEnd (after (configuration_name words))
   pub others : OthersStay (configuration_name words) left after
-  pub accepted : (command.channel ≡ 1) × IsPlain bytes n
+  pub small : length bytes ≤ configuration_limit
 
--- the configuration that was read is plain
-pub was_plain : (words : List (List ℕ)) (command : LevelsCommand) (left after : List ℕ → Option (List ℕ)) (bytes : List ℕ) (n : ℕ) → WasRead words command left after bytes n
-    → (files : List ℕ → List ℕ) → Tells left files → IsPlain (files (configuration_name words)) n
-was_plain words command left after bytes n read files tells =
+was_held : (words : List (List ℕ)) (command : LevelsCommand) (left after : List ℕ → Option (List ℕ)) (bytes : List ℕ) → WasRead words command left after bytes
+    → (files : List ℕ → List ℕ) → Tells left files → bytes ≡ files (configuration_name words)
+was_held words command left after bytes read files tells =
     let name = configuration_name words in
-    let same = whole_read (left name) (after name) (files name) bytes (tells name) read.took read.end in
-    rw same at read.accepted.1
+    whole_read (left name) (after name) (files name) bytes (tells name) read.took read.end
 
--- so what is due for the data is due
-due_for : (words : List (List ℕ)) (files : List ℕ → List ℕ) (command : LevelsCommand) (n : ℕ) → Asks words command → command.channel ≡ 1 → IsPlain (files (configuration_name words)) n
-    → (s : ℕ) (t : List ℕ) → IsDueForCommand command n (files (data_name words)) s t → IsDue words files s t
-due_for words files command n asks only plain s t (other_data none status text) =
+-- the configuration that was read is the one of the files
+was_configuration : (words : List (List ℕ)) (command : LevelsCommand) (left after : List ℕ → Option (List ℕ)) (bytes : List ℕ) (config : Config) → WasRead words command left after bytes → IsConfig bytes config
+    → (files : List ℕ → List ℕ) → Tells left files → IsConfiguration (files (configuration_name words)) config
+was_configuration words command left after bytes config read writes files tells =
+    let P : List ℕ → Type 0 = λ xs. IsConfiguration xs config in
+    subst P (was_held words command left after bytes read files tells) (record { small = read.small; writes = writes })
+
+-- a configuration with a fault
+pub fault_read : (words : List (List ℕ)) (command : LevelsCommand) (left after : List ℕ → Option (List ℕ)) (bytes : List ℕ) (fault : CfgFault) → WasRead words command left after bytes
+    → IsFileAnswer bytes (Err (Fault fault))
+    → (files : List ℕ → List ℕ) → Tells left files → (s : ℕ) (t : List ℕ) → s ≡ 2 → t ≡ configuration_line fault.line fault.field fault.kind → IsDue words files s t
+fault_read words command left after bytes fault read is files tells s t status text =
+    let P : List ℕ → Type 0 = λ xs. IsFirstFault xs fault.line fault.field is.0 in
+    let Q : List ℕ → Type 0 = λ xs. length xs ≤ configuration_limit in
+    let held = was_held words command left after bytes read files tells in
+    configuration_fault command.channel command.supply.nominal_mv command.supply.uncertainty_uv fault.line fault.field is.0 read.asks (subst Q held read.small) (subst P held is.2)
+    status (text ∙ ap (λ k. configuration_line fault.line fault.field k) is.1)
+
+-- a configuration of another form, or another channel than its one
+pub other_read : (words : List (List ℕ)) (command : LevelsCommand) (left after : List ℕ → Option (List ℕ)) (bytes : List ℕ) (config : Config) → WasRead words command left after bytes
+    → IsConfig bytes config → ¬ IsReadSoFar command.channel config
+    → (files : List ℕ → List ℕ) → Tells left files → (s : ℕ) (t : List ℕ) → s ≡ 2 → t ≡ notyet_line → IsDue words files s t
+other_read words command left after bytes config read writes other files tells s t status text =
+    let is = was_configuration words command left after bytes config read writes files tells in
+    let P : Config → Type 0 = λ c. IsReadSoFar command.channel c in
+    notyet command.channel command.supply.nominal_mv command.supply.uncertainty_uv config read.asks is
+    (λ n plain. other (subst P (one_config (files (configuration_name words)) plain.config config plain.configuration.writes is.writes) plain.read_so_far)) status text
+
+-- the bytes are a configuration of the form that is read so far, with so many records
+abbrev pub AreAcceptedBytes : (channel : ℕ) (bytes : List ℕ) (n : ℕ) → Type 0
+AreAcceptedBytes channel bytes n = (c : Config) × IsConfig bytes c × IsReadSoFar channel c × (n ≡ c.endsamp)
+
+pub found_records : (channel : ℕ) (bytes : List ℕ) (config : Config) (o : Option ℕ) → IsConfig bytes config → IfSome o (λ n. IsReadSoFar channel config × (n ≡ config.endsamp))
+    → IfSome o (λ n. AreAcceptedBytes channel bytes n)
+found_records channel bytes config None writes h = tt
+found_records channel bytes config (Some n) writes h = (config, writes, h.0, h.1)
+
+-- such a configuration was not refused
+pub never_refused : (words : List (List ℕ)) (command : LevelsCommand) (left after : List ℕ → Option (List ℕ)) (bytes : List ℕ) (n : ℕ) → WasRead words command left after bytes
+    → AreAcceptedBytes command.channel bytes n → (files : List ℕ → List ℕ) → Tells left files
+    → ((channel nominal uncertainty : ℕ) (c : Config) → IsLevels words channel nominal uncertainty → IsConfiguration (files (configuration_name words)) c → ¬ IsReadSoFar channel c) → ⊥
+never_refused words command left after bytes n read is files tells never =
+    never command.channel command.supply.nominal_mv command.supply.uncertainty_uv is.0 read.asks (was_configuration words command left after bytes is.0 read is.1 files tells) is.2
+
+-- what is due for the data is due
+due_for : (words : List (List ℕ)) (files : List ℕ → List ℕ) (command : LevelsCommand) (config : Config) (n : ℕ) → Asks words command → IsConfiguration (files (configuration_name words)) config
+    → IsReadSoFar command.channel config → n ≡ config.endsamp → (s : ℕ) (t : List ℕ) → IsDueForCommand command n (files (data_name words)) s t → IsDue words files s t
+due_for words files command config n asks is so_far count s t (other_data none status text) =
     let P : ℕ → Type 0 = λ k. IsRecording k (files (data_name words)) in
-    notyet command.channel command.supply.nominal_mv command.supply.uncertainty_uv asks (λ m others. none (subst P (one_count (files (configuration_name words)) m n others.configuration plain) others.recording)) status text
-due_for words files command n asks only plain s t (over_range i recording first status text) =
-    range command.channel command.supply.nominal_mv command.supply.uncertainty_uv n i asks (record { only_channel = only; configuration = plain; recording = recording }) first status text
-due_for words files command n asks only plain s t (within_range levels recording within are status text) =
-    measured command.channel command.supply.nominal_mv command.supply.uncertainty_uv n levels asks (record { only_channel = only; configuration = plain; recording = recording }) within are status text
+    let same = λ (c : Config) (h : IsConfiguration (files (configuration_name words)) c). one_config (files (configuration_name words)) c config h.writes is.writes in
+    notyet command.channel command.supply.nominal_mv command.supply.uncertainty_uv config asks is
+    (λ m others. none (subst P (others.records ∙ ap (λ (c : Config). c.endsamp) (same others.config others.configuration) ∙ sym count) others.recording)) status text
+due_for words files command config n asks is so_far count s t (over_range i recording first status text) =
+    range command.channel command.supply.nominal_mv command.supply.uncertainty_uv n i asks (record { config = config; configuration = is; read_so_far = so_far; records = count; recording = recording })
+    first status text
+due_for words files command config n asks is so_far count s t (within_range levels recording within are status text) =
+    measured command.channel command.supply.nominal_mv command.supply.uncertainty_uv n levels asks (record { config = config; configuration = is; read_so_far = so_far; records = count; recording = recording })
+    within are status text
 
-for_data : (words : List (List ℕ)) (command : LevelsCommand) (left after : List ℕ → Option (List ℕ)) (bytes : List ℕ) (n : ℕ) → WasRead words command left after bytes n
+for_data : (words : List (List ℕ)) (command : LevelsCommand) (left after : List ℕ → Option (List ℕ)) (bytes : List ℕ) (n : ℕ) → WasRead words command left after bytes → AreAcceptedBytes command.channel bytes n
     → (files : List ℕ → List ℕ) → Tells left files → (s : ℕ) (t : List ℕ) → IsDueForCommand command n (files (data_name words)) s t → IsDue words files s t
-for_data words command left after bytes n read files tells s t due =
-    due_for words files command n read.asks read.accepted.0 (was_plain words command left after bytes n read files tells) s t due
+for_data words command left after bytes n read is files tells s t due =
+    due_for words files command is.0 n read.asks (was_configuration words command left after bytes is.0 read is.1 files tells) is.2 is.3 s t due
 
 -- the data are as at entry while the configuration alone was read
 unread : (words : List (List ℕ)) (command : LevelsCommand) (left after : List ℕ → Option (List ℕ)) → Asks words command
@@ -116,30 +150,35 @@ unread : (words : List (List ℕ)) (command : LevelsCommand) (left after : List 
 unread words command left after asks others = others (data_name words) (λ same. asks.names (sym same))
 
 -- the data are as at entry once the configuration was read
-still_told : (words : List (List ℕ)) (command : LevelsCommand) (left after : List ℕ → Option (List ℕ)) (bytes : List ℕ) (n : ℕ) → WasRead words command left after bytes n
+still_told : (words : List (List ℕ)) (command : LevelsCommand) (left after : List ℕ → Option (List ℕ)) (bytes : List ℕ) → WasRead words command left after bytes
     → (files : List ℕ → List ℕ) → Tells left files → after (data_name words) ≡ Some (files (data_name words))
-still_told words command left after bytes n read files tells =
+still_told words command left after bytes read files tells =
     unread words command left after read.asks read.others ∙ tells (data_name words)
 
+-- the answer to the data, once the configuration was accepted
+pub data_told : {E : Type 0} (words : List (List ℕ)) (command : LevelsCommand) (left after : List ℕ → Option (List ℕ)) (bytes : List ℕ) (n : ℕ) (r : Result Reply E)
+    → WasRead words command left after bytes → AreAcceptedBytes command.channel bytes n
+    → IfOk r (λ x. x.status ≢ 4 → (xs : List ℕ) → after (data_name words) ≡ Some xs → IsDueForCommand command n xs x.status (string_bytes x.text))
+    → IfOk r (λ x. x.status ≢ 4 → (files : List ℕ → List ℕ) → Tells left files → IsDue words files x.status (string_bytes x.text))
+data_told words command left after bytes n (Ok x) read is due = λ fine files tells.
+    let told = still_told words command left after bytes read files tells in
+    for_data words command left after bytes n read is files tells x.status (string_bytes x.text) (due fine (files (data_name words)) told)
+data_told words command left after bytes n (Err e) read is due = tt
+
 -- data longer than the records
-pub long_data : (words : List (List ℕ)) (command : LevelsCommand) (left after : List ℕ → Option (List ℕ)) (bytes : List ℕ) (n : ℕ) → WasRead words command left after bytes n
-    → IfSome (after (data_name words)) (λ xs. 10 * n < length xs)
-    → (files : List ℕ → List ℕ) → Tells left files → (s : ℕ) (t : List ℕ) → s ≡ 2 → t ≡ notyet_line → IsDue words files s t
-long_data words command left after bytes n read long files tells s t status text =
-    let more = told_long (after (data_name words)) (files (data_name words)) (10 * n) (still_told words command left after bytes n read files tells) long in
-    for_data words command left after bytes n read files tells s t (other_data (λ recording. absurd (omega (arith, recording.size, more))) status text)
+pub long_data : {E : Type 0} (command : LevelsCommand) (n : ℕ) (old : Option (List ℕ)) (r : Result Reply E) → IfOk r (λ x. (x.status ≡ 2) × (string_bytes x.text ≡ notyet_line))
+    → IfSome old (λ xs. 10 * n < length xs) → IfOk r (λ x. x.status ≢ 4 → (bytes : List ℕ) → old ≡ Some bytes → IsDueForCommand command n bytes x.status (string_bytes x.text))
+long_data command n old (Ok x) h long = λ fine bytes is. other_data (λ recording. absurd (omega (arith, recording.size, told_long old bytes (10 * n) is long))) h.0 h.1
+long_data command n old (Err e) h long = tt
 
 -- data that were read
-pub data_read : {E : Type 0} (words : List (List ℕ)) (command : LevelsCommand) (left after last : List ℕ → Option (List ℕ)) (bytes : List ℕ) (n : ℕ) (xs : List ℕ) (r : Result Reply E)
-    → WasRead words command left after bytes n
-    → Consumes (after (data_name words)) (last (data_name words)) xs → IsAtEnd (last (data_name words))
+pub data_read : {E : Type 0} (command : LevelsCommand) (n : ℕ) (old new : Option (List ℕ)) (xs : List ℕ) (r : Result Reply E) → Consumes old new xs → IsAtEnd new
     → IfOk r (λ x. IsDueForCommand command n xs x.status (string_bytes x.text))
-    → IfOk r (λ x. x.status ≢ 4 → (files : List ℕ → List ℕ) → Tells left files → IsDue words files x.status (string_bytes x.text))
-data_read words command left after last bytes n xs (Ok x) read took end due = λ fine files tells.
-    let told = still_told words command left after bytes n read files tells in
-    let same = whole_read (after (data_name words)) (last (data_name words)) (files (data_name words)) xs told took end in
-    for_data words command left after bytes n read files tells x.status (string_bytes x.text) (rw same at due)
-data_read words command left after last bytes n xs (Err e) read took end due = tt
+    → IfOk r (λ x. x.status ≢ 4 → (bytes : List ℕ) → old ≡ Some bytes → IsDueForCommand command n bytes x.status (string_bytes x.text))
+data_read command n old new xs (Ok x) took end due = λ fine bytes is.
+    let same = whole_read old new bytes xs is took end in
+    rw same at due
+data_read command n old new xs (Err e) took end due = tt
 
 -- What a failed write has begun: the answer that is due, or that a read failed.
 pub front_due : (words : List (List ℕ)) (files : List ℕ → List ℕ) (s : ℕ) (t : List ℕ) (written later : Option (List ℕ)) (before now : ℕ)

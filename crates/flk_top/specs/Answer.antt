@@ -1,7 +1,12 @@
 -- What `run` answers: a status and a text, by the words and by the bytes that are left under each name.
-use Rattle.std.specs.Prelude.{◌≡◌, ℕ, ◌+◌, List, ◌++◌, ℤ, Option, Some, codes}
+use Rattle.std.specs.Prelude.{◌≡◌, ℕ, ◌+◌, ◌*◌, ◌^◌, ◌<◌, ◌≤◌, List, [], ◌∷◌, ◌++◌, length, ℤ, pos, Option, Some, codes}
 use Rattle.std.specs.Fmt.{decimal}
-use Rattle.flk_cfg.specs.Plain.{IsPlain}
+use Rattle.flk_cfg.specs.File.{IsConfig, IsFirstFault}
+use Rattle.flk_cfg.specs.Kinds.{kind_number}
+use Rattle.flk_cfg.specs.declared.config.Analog.{Analog}
+use Rattle.flk_cfg.specs.declared.config.Config.{Config}
+use Rattle.flk_cfg.specs.declared.config.Form.TheVariants.{Binary}
+use Rattle.flk_cfg.specs.declared.kind.Kind.{Kind}
 use Rattle.flk_top.specs.Command.{IsLevels, IsNoCommand, configuration_name, data_name}
 use Rattle.flk_top.specs.Recording.{IsRecording, samples}
 use Rattle.flk_top.specs.Levels.{IsFirstOver, IsWithinRange, AreLevels}
@@ -22,25 +27,65 @@ notyet_line = codes "fault notyet\n"
 abbrev pub read_line : List ℕ
 read_line = codes "fault read\n"
 
+-- lines and fields are counted from 1; field 0 is the line as a whole
+abbrev pub configuration_line : (line field kind : ℕ) → List ℕ
+configuration_line line field kind = codes "fault configuration " ++ (decimal line ++ (codes " " ++ (decimal field ++ (codes " " ++ (decimal kind ++ codes "\n")))))
+
 -- records are counted from 1
 abbrev pub range_line : ℕ → List ℕ
 range_line record_number = codes "fault range " ++ decimal record_number ++ codes " 1\n"
 
--- the configuration and the data that the words name are plain, with n records, and the words ask for their one channel
-pub record ArePlainFiles (words : List (List ℕ)) (files : List ℕ → List ℕ) (channel n : ℕ) : Type 0 where
+-- the greatest configuration file, in bytes
+abbrev pub configuration_limit : ℕ
+configuration_limit = 1048576
+
+-- the channel records volts, a hundredth a step (0.01 in units of 10^-24), without offset
+pub record IsPlainChannel (a : Analog) : Type 0 where
+  pub unit : a.uu ≡ codes "V"
+  pub scale : a.a.n ≡ pos (10 ^ 22)
+  pub offset : a.b.n ≡ pos 0
+
+-- The words ask for the one channel of a recording of the form that is read so far: one plain channel, no digital channel, 50 Hz, BINARY
+-- data.
+pub record IsReadSoFar (channel : ℕ) (c : Config) : Type 0 where
   pub only_channel : channel ≡ 1
-  pub configuration : IsPlain (files (configuration_name words)) n
+  pub analog : Analog
+  pub analogs : c.analog ≡ analog ∷ []
+  pub plain : IsPlainChannel analog
+  pub digitals : c.digital ≡ []
+  pub frequency : c.lf.n ≡ pos (50 * 10 ^ 24)
+  pub binary : c.form ≡ Binary
+
+-- the bytes are a configuration, which is this one, and keep the limit
+pub record IsConfiguration (bytes : List ℕ) (c : Config) : Type 0 where
+  pub small : length bytes ≤ configuration_limit
+  pub writes : IsConfig bytes c
+
+-- the configuration and the data that the words name are of the form that is read so far, with n records
+pub record ArePlainFiles (words : List (List ℕ)) (files : List ℕ → List ℕ) (channel n : ℕ) : Type 0 where
+  pub config : Config
+  pub configuration : IsConfiguration (files (configuration_name words)) config
+  pub read_so_far : IsReadSoFar channel config
+  pub records : n ≡ config.endsamp
   pub recording : IsRecording n (files (data_name words))
 
 -- the samples of the data that the words name
 abbrev pub samples_of : List (List ℕ) → (List ℕ → List ℕ) → ℕ → List ℤ
 samples_of words files n = samples (files (data_name words)) n
 
--- The status and the text that are due. The premises of the four rows exclude each other, so each text comes exactly where its row says.
+-- The status and the text that are due. The premises of the six rows exclude each other, so each text comes exactly where its row says.
 -- (nominal in millivolts, uncertainty in microvolts; half a nominal period of 50 Hz has 24 samples.)
 pub data IsDue (words : List (List ℕ)) (files : List ℕ → List ℕ) (status : ℕ) (text : List ℕ) : Type 0 where
   usage : IsNoCommand words → status ≡ 2 → text ≡ usage_line → IsDue words files status text
-  notyet : (channel nominal uncertainty : ℕ) → IsLevels words channel nominal uncertainty
+  long_configuration : (channel nominal uncertainty : ℕ) → IsLevels words channel nominal uncertainty
+      → configuration_limit < length (files (configuration_name words))
+      → status ≡ 2 → text ≡ configuration_line 0 0 8 → IsDue words files status text
+  configuration_fault : (channel nominal uncertainty line field : ℕ) (kind : Kind) → IsLevels words channel nominal uncertainty
+      → length (files (configuration_name words)) ≤ configuration_limit
+      → IsFirstFault (files (configuration_name words)) line field kind
+      → status ≡ 2 → text ≡ configuration_line line field (kind_number kind) → IsDue words files status text
+  notyet : (channel nominal uncertainty : ℕ) (config : Config) → IsLevels words channel nominal uncertainty
+      → IsConfiguration (files (configuration_name words)) config
       → ((n : ℕ) → ¬ ArePlainFiles words files channel n)
       → status ≡ 2 → text ≡ notyet_line → IsDue words files status text
   range : (channel nominal uncertainty n i : ℕ) → IsLevels words channel nominal uncertainty → ArePlainFiles words files channel n
@@ -51,7 +96,7 @@ pub data IsDue (words : List (List ℕ)) (files : List ℕ → List ℕ) (status
       → AreLevels 24 nominal uncertainty (samples_of words files n) levels
       → status ≡ 0 → text ≡ levels_text channel levels → IsDue words files status text
 
--- The words ask for the levels of files that are accepted: plain, and with no sample over range.
+-- The words ask for the levels of files that are accepted: of the form that is read so far, and with no sample over range.
 pub record AreAccepted (words : List (List ℕ)) (files : List ℕ → List ℕ) (channel nominal uncertainty n : ℕ) : Type 0 where
   pub asks : IsLevels words channel nominal uncertainty
   pub plain : ArePlainFiles words files channel n

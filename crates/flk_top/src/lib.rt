@@ -9,9 +9,9 @@
 ghost use Rattle.std.specs.Prelude.{◌≡◌, ◌≢◌, ◌⊎◌, ℕ, ◌<◌, List};
 ghost use Rattle.std.specs.Io.KnownBytes.{Appends};
 ghost use Rattle.flk_io.specs.Causes.{Rose, AllStay, AddsFront};
-ghost use Rattle.flk_cfg.specs.Plain.{IsPlain};
-ghost use Rattle.flk_top.specs.Command.{IsNoCommand, configuration_name, data_name};
-ghost use Rattle.flk_top.specs.Answer.{Tells, IsDue, AreAccepted, samples_of, usage_line, read_line};
+ghost use Rattle.flk_cfg.specs.declared.config.Config.{Config};
+ghost use Rattle.flk_top.specs.Command.{IsLevels, IsNoCommand, configuration_name, data_name};
+ghost use Rattle.flk_top.specs.Answer.{Tells, IsDue, IsConfiguration, IsReadSoFar, AreAccepted, samples_of, usage_line, read_line};
 ghost use Rattle.flk_top.specs.Headline.{TellsLevels};
 
 mod command;
@@ -38,7 +38,11 @@ pub trait Gate {
     fn enter(&self, phase: usize);
 }
 
-/// Runs the command that the words name, and answers the status.
+/// Runs the command that `words` name (those after the program's name), and answers the status.
+///
+/// It reads the command's files from `shelf`, composes the whole text, and then writes it to `sink`. The status is 0 where the text
+/// is that of the command, 2 where it is one fault line, 4 where a read failed (the line `fault read`), 5 where a write failed, and
+/// 6 where no memory was found, which writes nothing. `rt` and `gate` are for the phases of a report; `levels` uses neither.
 pub fn run<R: Threads + Sync, F: Shelf, K: Sink, G: Gate + Sync>(
     rt: &R,
     alloc: Global,
@@ -77,9 +81,12 @@ pub fn run<R: Threads + Sync, F: Shelf, K: Sink, G: Gate + Sync>(
     ensures usage_text { IsNoCommand words.now → result ≢ 5 → result ≢ 6 → (result ≡ 2) × Appends (K.written sink.old) (K.written sink.new) usage_line }
     ensures usage_front { IsNoCommand words.now → result ≡ 5 → AddsFront (K.written sink.old) (K.written sink.new) usage_line }
 
-    // Nothing is read but under the two names of `levels`, the data only after a plain configuration, and nothing is appended.
+    // Nothing is read but under the two names of `levels`, the data only after a configuration of the form that is read so far,
+    // and nothing is appended.
     ensures others { (name : List ℕ) → name ≢ configuration_name words.now → name ≢ data_name words.now → F.left shelf.new name ≡ F.left shelf.old name }
-    ensures unread { (files : List ℕ → List ℕ) → Tells (F.left shelf.old) files → ((n : ℕ) → ¬ IsPlain (files (configuration_name words.now)) n)
+    ensures unread { (files : List ℕ → List ℕ) → Tells (F.left shelf.old) files
+        → ((channel nominal uncertainty : ℕ) (c : Config) → IsLevels words.now channel nominal uncertainty
+        → IsConfiguration (files (configuration_name words.now)) c → ¬ IsReadSoFar channel c)
         → F.left shelf.new (data_name words.now) ≡ F.left shelf.old (data_name words.now) }
     ensures added { AllStay (F.added shelf.old) (F.added shelf.new) }
     ensures append_faults { F.append_faults shelf.new ≡ F.append_faults shelf.old }

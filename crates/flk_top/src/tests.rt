@@ -2,9 +2,13 @@ use crate::{Gate, run};
 use flk_io::{MemShelf, MemSink, OutOfMemory, Words};
 use std::alloc::Global;
 use std::test::Fail;
+use std::thread::Threads;
 
-const CONFIGURATION: &[u8] =
-    b"LAB,DAQ,1999\r\n1,1A,0D\r\n1,U,A,,V,0.01,0,0,-32767,32767,1,1,P\r\n50\r\n1\r\n2400,4800\r\n12/03/2021,09:15:00.000000\r\n12/03/2021,09:15:00.000000\r\nBINARY\r\n1\r\n";
+// The first four lines of a configuration of 4800 records, and the others.
+const FRONT: &str = "LAB,DAQ,1999\r\n1,1A,0D\r\n1,U,A,,V,0.01,0,0,-32767,32767,1,1,P\r\n50\r\n";
+
+const BACK: &str =
+    "1\r\n2400,4800\r\n12/03/2021,09:15:00.000000\r\n12/03/2021,09:15:00.000000\r\nBINARY\r\n1\r\n";
 
 /// A gate at which nothing is done.
 struct Open;
@@ -27,14 +31,28 @@ fn square_wave(alloc: Global) -> Result<Vec<u8>, OutOfMemory> {
     Ok(bytes)
 }
 
-// The configuration X, another one Z with a line more, and the data Y.
+// The configuration with one part of its text replaced by another.
+fn varied(alloc: Global, old: &str, new: &str) -> Result<String, OutOfMemory> {
+    let mut whole = String::from_str(alloc, FRONT)?;
+    whole.push_str(BACK)?;
+    let mut text = String::new(alloc);
+    if let Some((before, after)) = whole.as_str().split_once(old) {
+        for part in [before, new, after] {
+            text.push_str(part)?;
+        }
+    }
+    Ok(text)
+}
+
+// The configuration X, the same in other bytes as Z, and the data Y.
 fn filled_shelf(alloc: Global) -> Result<MemShelf, OutOfMemory> {
-    let mut other = Vec::new(alloc);
-    other.extend_from_slice(CONFIGURATION)?;
-    other.extend_from_slice(b"0\r\n")?;
+    let mut other = String::new(alloc);
+    for part in varied(alloc, ",0.01,", ",0.010,")?.as_str().split('\r') {
+        other.push_str(part)?;
+    }
     let mut shelf = MemShelf::new(alloc);
-    shelf.put("X", CONFIGURATION)?;
-    shelf.put("Z", &other)?;
+    shelf.put("X", varied(alloc, "", "")?.as_bytes())?;
+    shelf.put("Z", other.as_bytes())?;
     shelf.put("Y", &square_wave(alloc)?)?;
     Ok(shelf)
 }
@@ -59,7 +77,7 @@ fn each_answer(rt: HostRuntime) -> Result<(), Fail> {
         ("levels X Y 1 230000 0", 0, EXACT),
         ("levels X Y 1 230000 1", 0, UNCERTAIN),
         ("levels X Y 1 50000 0", 2, "fault range 1 1\n"),
-        ("levels Z Y 1 230000 0", 2, "fault notyet\n"),
+        ("levels Z Y 1 230000 0", 0, EXACT),
         ("levels X Y 2 230000 0", 2, "fault notyet\n"),
         ("levels X X 1 230000 0", 2, "fault usage\n"),
         ("tables 230/60", 2, "fault usage\n"),
@@ -72,6 +90,60 @@ fn each_answer(rt: HostRuntime) -> Result<(), Fail> {
         assert_eq!(rt; answered, status, "{line}");
         assert_eq!(rt; sink.written(), text.as_bytes(), "{line}");
     }
+    Ok(())
+}
+
+// Whether the configuration is answered by this fault.
+fn is_refused<R: Threads + Sync>(
+    rt: &R,
+    alloc: Global,
+    configuration: &str,
+    fault: &str,
+) -> Result<bool, OutOfMemory> {
+    let words = words_of(alloc, "levels W Y 1 230000 0")?;
+    let mut shelf = filled_shelf(alloc)?;
+    shelf.put("W", configuration.as_bytes())?;
+    let mut sink = MemSink::new(alloc, 200, 16)?;
+    let answered = run(rt, alloc, &words, &mut shelf, &mut sink, &Open);
+    Ok(answered == 2 && sink.written() == fault.as_bytes())
+}
+
+#[test]
+fn each_fault_of_a_configuration(rt: HostRuntime) -> Result<(), Fail> {
+    for (old, new, fault) in [
+        (BACK, "", "fault configuration 5 0 1\n"),
+        ("1,1A,0D", "1,2A,0D", "fault configuration 2 1 4\n"),
+        ("DAQ,1999", "DAQ", "fault configuration 1 3 6\n"),
+        (
+            "Y\r\n1\r\n",
+            "Y\r\n1\r\n0\r\n",
+            "fault configuration 11 0 8\n",
+        ),
+        ("\r\n50\r\n", "\r\n60\r\n", "fault notyet\n"),
+    ] {
+        let configuration = varied(rt.alloc(), old, new)?;
+        assert!(rt;
+            is_refused(&rt, rt.alloc(), configuration.as_str(), fault)?,
+            "{fault}"
+        );
+    }
+    Ok(())
+}
+
+#[test]
+fn a_configuration_above_the_limit(rt: HostRuntime) -> Result<(), Fail> {
+    let mut configuration = varied(rt.alloc(), "", "")?;
+    for _ in configuration.len()..1_048_577 {
+        configuration.push(' ')?;
+    }
+    assert!(rt;
+        is_refused(
+            &rt,
+            rt.alloc(),
+            configuration.as_str(),
+            "fault configuration 0 0 8\n"
+        )?
+    );
     Ok(())
 }
 

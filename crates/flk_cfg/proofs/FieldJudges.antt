@@ -1,0 +1,45 @@
+-- What the judges of single fields answer.
+use Rattle.std.proofs.Common.{◌≡◌, ◌≢◌, ℕ, ◌+◌, ◌<◌, ◌≤◌, List, [], ◌∷◌, ◌++◌, length, Bool, true, false, cond, refl, sym, ap, subst, ◌∙◌, arith, inl, inr, ◌⊎◌, ℤ, pos, negsuc, ◌≤ℤ◌, ◌<ℤ◌, Result, Ok, Err}
+use Rattle.std.proofs.lemmas.Int.{ints}
+use Rattle.flk_text.specs.Decimal.{IsDecimal, IsForm, IsAnswer}
+use Rattle.flk_text.specs.WholeNumber.{IsWholeValue, IsWholeForm, IsWholeAnswer}
+use Rattle.flk_text.proofs.NumeralLemmas.{decimal_once}
+use Rattle.flk_text.proofs.DecimalLaws.{one_whole_answer}
+use Rattle.flk_cfg.specs.Values.{IsWholeFrom, IsFrequency, IsCounted, EndsIn}
+
+-- a text is of one whole number
+pub whole_once : (text : List ℕ) (y z : ℤ) → IsWholeValue text y → IsWholeValue text z → y ≡ z
+whole_once text y z a b = cc (one_whole_answer text (Ok y) (Ok z) a b)
+
+pub whole_form : (text : List ℕ) (z : ℤ) → IsWholeValue text z → IsWholeForm text
+whole_form text z v = (v.minus, v.size, v.spelled)
+
+-- a whole number outside the set is none of it
+pub whole_outside : (least most : ℕ) (text : List ℕ) (z : ℤ) → IsWholeValue text z → ((pos least ≤ℤ z) → (z ≤ℤ pos most) → ⊥) → (n : ℕ) → IsWholeFrom least most text n → ⊥
+whole_outside least most text z v out n is =
+    let e : pos n ≡ z = whole_once text (pos n) z is.value v in
+    let low : pos least ≤ℤ pos n = omega (arith, ints, is.at_least) in
+    let high : pos n ≤ℤ pos most = omega (arith, ints, is.at_most) in
+    out (subst (λ (x : ℤ). pos least ≤ℤ x) e low) (subst (λ (x : ℤ). x ≤ℤ pos most) e high)
+
+-- a whole number that is too long is none of the set
+pub whole_far : (least most : ℕ) (text : List ℕ) → ((z : ℤ) → IsWholeValue text z → ⊥) → (n : ℕ) → IsWholeFrom least most text n → ⊥
+whole_far least most text none n is = none (pos n) is.value
+
+pub whole_inside : (least most : ℕ) (text : List ℕ) (z : ℤ) (n : ℕ) → IsWholeValue text z → pos least ≤ℤ z → z ≤ℤ pos most → z ≡ pos n → IsWholeFrom least most text n
+whole_inside least most text z n v low high e = record {
+  value = subst (IsWholeValue text) e v;
+  at_least = omega (arith, ints, low, e);
+  at_most = omega (arith, ints, high, e);
+}
+
+pub decimal_form : (text : List ℕ) (z : ℤ) → IsDecimal text z → IsForm text
+decimal_form text z v = (v.numeral, v.spelled)
+
+pub not_above : (text : List ℕ) (z : ℤ) → IsDecimal text z → z ≤ℤ pos 0 → (y : ℤ) → IsFrequency text y → ⊥
+not_above text z v low y is =
+    let e : y ≡ z = decimal_once text y z is.value v in
+    omega (arith, ints, is.above, low, e)
+
+pub other_rate : (text : List ℕ) (z y : ℤ) → IsDecimal text z → z ≢ y → IsDecimal text y → ⊥
+other_rate text z y v out is = out (decimal_once text z y v is)

@@ -1,0 +1,119 @@
+-- The parts of the answer for the whole file.
+use Rattle.std.proofs.Common.{◌≡◌, ℕ, zero, suc, ◌+◌, ◌-◌, ◌<◌, ◌≤◌, List, [], length, get_or, refl, sym, ap, subst, ◌∙◌, arith, inl, inr, pos, false}
+use Rattle.std.proofs.lemmas.Bool.{cases_lt}
+use Rattle.flk_cfg.specs.Table.{Set, IsGoodLine, LineFault, row, analog_row, digital_row, setting_rows}
+use Rattle.flk_cfg.specs.Rows.{IsTitle, IsCounts, IsAnalog, IsDigital}
+use Rattle.flk_cfg.specs.Places.{HasLine, FaultAt}
+use Rattle.flk_cfg.specs.File.{AreAnalogs, AreDigitals, AreSettings, IsConfig, IsGoodAt, FirstFaultAt, FaultFromThird}
+use Rattle.flk_cfg.specs.Reading.{AreGood, FirstOf}
+use Rattle.flk_cfg.specs.SettingParts.{setting_at, AreSettingLines}
+use Rattle.flk_cfg.specs.declared.kind.Fault.{Fault}
+use Rattle.flk_cfg.specs.declared.config.Analog.{Analog}
+use Rattle.flk_cfg.specs.declared.config.Digital.{Digital}
+use Rattle.flk_cfg.specs.declared.config.Config.{Config}
+use Rattle.flk_cfg.specs.declared.settings.Settings.{Settings}
+use Rattle.flk_cfg.proofs.Rows.{good_analog, good_digital, good_frequency, good_rates, good_sampling, good_stamp, good_form, row_analog, row_digital, row_setting}
+
+pub no_analog : Analog
+no_analog = record {
+  id = [];
+  ph = [];
+  ccbm = [];
+  uu = [];
+  a = record { n = pos 0 };
+  b = record { n = pos 0 };
+  skew = record { n = pos 0 };
+  min = record { n = pos 0 };
+  max = record { n = pos 0 };
+  primary = record { n = pos 0 };
+  secondary = record { n = pos 0 };
+  ps = 0;
+}
+
+pub no_digital : Digital
+no_digital = record { id = []; ph = []; ccbm = []; normal = false }
+
+pub good_analogs : (bytes : List ℕ) (k n : ℕ) (cs : List Analog) → length cs ≡ n → AreAnalogs bytes k cs → AreGood (λ i. analog_row (i + 1)) bytes k n
+good_analogs bytes k n cs len are = λ i lt.
+    let h = are i no_analog (omega (arith, lt, len)) in
+    (h.0, h.1, good_analog (i + 1) h.0 _ h.2)
+
+pub good_digitals : (bytes : List ℕ) (k n : ℕ) (cs : List Digital) → length cs ≡ n → AreDigitals bytes k cs → AreGood (λ i. digital_row (i + 1)) bytes k n
+good_digitals bytes k n cs len are = λ i lt.
+    let h = are i no_digital (omega (arith, lt, len)) in
+    (h.0, h.1, good_digital (i + 1) h.0 _ h.2)
+
+pub good_settings : (bytes : List ℕ) (k : ℕ) (s : Settings) (i : ℕ) → AreSettingLines bytes k s → i < 6 → HasLine bytes (k + i) (IsGoodLine (setting_at i))
+good_settings bytes k s zero are lt =
+    let same : k ≡ k + 0 = omega arith in
+    let h = are.frequency in
+    subst (λ (n : ℕ). HasLine bytes n (IsGoodLine (setting_at 0))) same (h.0, h.1, good_frequency h.0 s.lf.n h.2)
+good_settings bytes k s (suc zero) are lt = (are.rates.0, are.rates.1, good_rates are.rates.0 are.rates.2)
+good_settings bytes k s (suc (suc zero)) are lt = (are.sampling.0, are.sampling.1, good_sampling are.sampling.0 s.endsamp are.sampling.2)
+good_settings bytes k s (suc (suc (suc zero))) are lt = (are.first.0, are.first.1, good_stamp are.first.0 s.first are.first.2)
+good_settings bytes k s (suc (suc (suc (suc zero)))) are lt = (are.trigger.0, are.trigger.1, good_stamp are.trigger.0 s.trigger are.trigger.2)
+good_settings bytes k s (suc (suc (suc (suc (suc zero))))) are lt = (are.file_type.0, are.file_type.1, good_form are.file_type.0 s.form are.file_type.2)
+good_settings bytes k s (suc (suc (suc (suc (suc (suc i)))))) are lt = absurd (omega (arith, lt))
+
+-- the lines from the third on are good, so many of them
+abbrev pub GoodThird : List ℕ → ℕ → ℕ → ℕ → Type 0
+GoodThird bytes na nd n = (i : ℕ) → i < n → IsGoodAt bytes na nd i
+
+pub good_none : (bytes : List ℕ) (na nd : ℕ) → GoodThird bytes na nd 0
+good_none bytes na nd = λ i lt. absurd (omega (arith, lt))
+
+good_row : (bytes : List ℕ) (na nd n i : ℕ) (sets : List Set) → row na nd (n + i) ≡ sets → HasLine bytes (2 + n + i) (IsGoodLine sets) → IsGoodAt bytes na nd (n + i)
+good_row bytes na nd n i sets e h =
+    let same : 2 + n + i ≡ 2 + (n + i) = omega arith in
+    let moved : HasLine bytes (2 + (n + i)) (IsGoodLine sets) = subst (λ (m : ℕ). HasLine bytes m (IsGoodLine sets)) same h in
+    subst (λ (r : List Set). HasLine bytes (2 + (n + i)) (IsGoodLine r)) (sym e) moved
+
+-- a run that is good goes on
+pub good_run : (bytes : List ℕ) (na nd n m : ℕ) (rows : ℕ → List Set) → GoodThird bytes na nd n → ((i : ℕ) → i < m → row na nd (n + i) ≡ rows i) → AreGood rows bytes (2 + n) m → GoodThird bytes na nd (n + m)
+good_run bytes na nd n m rows good same run = λ j lt.
+    elim (cases_lt j n) [
+      | inl less ↦ good j less
+      | inr past ↦
+          let i = j - n in
+          let e : n + (j - n) ≡ j = omega (arith, past) in
+          let within : j - n < m = omega (arith, lt, past) in
+          subst (IsGoodAt bytes na nd) e (good_row bytes na nd n (j - n) (rows (j - n)) (same (j - n) within) (run (j - n) within))
+    ]
+
+-- the first fault of a run behind good lines is the file's
+pub third_fault : (bytes : List ℕ) (na nd n m : ℕ) (rows : ℕ → List Set) (f : Fault) → GoodThird bytes na nd n → ((i : ℕ) → i < m → row na nd (n + i) ≡ rows i) → n + m ≤ na + nd + 6
+    → FirstOf rows m bytes (2 + n) f → FaultFromThird bytes na nd f.line f.field f.kind
+third_fault bytes na nd n m rows f good same few out =
+    let moved : 2 + n + out.i ≡ 2 + (n + out.i) = omega arith in
+    let here : FaultAt bytes (2 + (n + out.i)) (LineFault (rows out.i)) f.field f.kind = subst (λ (k : ℕ). FaultAt bytes k (LineFault (rows out.i)) f.field f.kind) moved out.here in
+    inl (
+      n + out.i,
+      omega (arith, out.line),
+      record {
+        within = omega (arith, out.within, few);
+        before = good_run bytes na nd n out.i rows good (λ i lt. same i (omega (arith, lt, out.within))) out.before;
+        here = subst (λ (r : List Set). FaultAt bytes (2 + (n + out.i)) (LineFault r) f.field f.kind) (sym (same out.i out.within)) here;
+      },
+    )
+
+pub rows_analog : (na nd i : ℕ) → i < na → row na nd (0 + i) ≡ analog_row (i + 1)
+rows_analog na nd i lt =
+    let e : 0 + i ≡ i = omega arith in
+    ap (row na nd) e ∙ row_analog na nd i lt
+
+-- ---- the whole
+
+pub whole_config : (bytes : List ℕ) (c : Config) (na nd : ℕ) → HasLine bytes 0 (λ parts. IsTitle parts c.station c.device) → HasLine bytes 1 (λ parts. IsCounts parts na nd)
+    → (length c.analog ≡ na) × AreAnalogs bytes 2 c.analog → (length c.digital ≡ nd) × AreDigitals bytes (2 + na) c.digital → AreSettings bytes (2 + na + nd) c → IsConfig bytes c
+whole_config bytes c na nd title counts analog digital settings =
+    let a : na ≡ length c.analog = sym analog.0 in
+    let d : nd ≡ length c.digital = sym digital.0 in
+    let counts1 : HasLine bytes 1 (λ parts. IsCounts parts (length c.analog) nd) = subst (λ (n : ℕ). HasLine bytes 1 (λ parts. IsCounts parts n nd)) a counts in
+    let settings1 : AreSettings bytes (2 + length c.analog + nd) c = subst (λ (n : ℕ). AreSettings bytes (2 + n + nd) c) a settings in
+    record {
+      title = title;
+      counts = subst (λ (n : ℕ). HasLine bytes 1 (λ parts. IsCounts parts (length c.analog) n)) d counts1;
+      analogs = analog.1;
+      digitals = subst (λ (n : ℕ). AreDigitals bytes (2 + n) c.digital) a digital.1;
+      settings = subst (λ (n : ℕ). AreSettings bytes (2 + length c.analog + n) c) d settings1;
+    }

@@ -1,0 +1,10 @@
+pub mod Lines
+pub mod Fields
+pub mod Tail
+pub mod Numeral
+pub mod Decimal
+pub mod WholeNumber
+pub mod PlainText
+pub mod NumeralParts
+pub mod NumeralView
+pub mod DigitsRead
