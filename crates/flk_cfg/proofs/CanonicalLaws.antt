@@ -1,6 +1,6 @@
 -- The canonical text of a configuration writes that configuration.
-use Rattle.std.proofs.Common.{◌≡◌, ℕ, zero, suc, ◌+◌, ◌-◌, ◌*◌, ◌^◌, ◌<◌, ◌≤◌, Bool, true, false, cond, List, [], ◌∷◌, ◌++◌, length, get_or, drop, refl, sym, ap, subst, ◌∙◌, arith, inl, inr, ℤ, pos, length-append}
-use Rattle.std.specs.Prelude.{codes, All, unsigned_abs}
+use Rattle.std.proofs.Common.{◌≡◌, ℕ, zero, suc, ◌+◌, ◌-◌, ◌*◌, ◌^◌, ◌<◌, ◌≤◌, Bool, true, false, cond, List, [], ◌∷◌, ◌++◌, length, get_or, drop, refl, ap, subst, ◌∙◌, arith, inl, inr, ℤ, length-append}
+use Rattle.std.specs.Prelude.{codes, All}
 use Rattle.std.specs.Fmt.{decimal}
 use Rattle.std.proofs.lemmas.Fmt.{decimal_digit}
 use Rattle.std.proofs.lemmas.List.{get_or_append_left, get_or-append-add}
@@ -10,8 +10,8 @@ use Rattle.flk_text.specs.PlainText.{plain}
 use Rattle.flk_text.proofs.PlainTextLemmas.{plain_text}
 use Rattle.flk_cfg.specs.Values.{IsFormWord, IsWholeFrom}
 use Rattle.flk_cfg.specs.Table.{rate_units}
-use Rattle.flk_cfg.specs.Rows.{IsTitle, AreCounts, IsCounts, IsAnalog, IsDigital, IsLineFrequency, IsOneRate, IsSampling, IsStamp, IsFileType, IsMultiplier}
-use Rattle.flk_cfg.specs.Places.{HasLine, HasLastLine}
+use Rattle.flk_cfg.specs.Rows.{IsTitle, IsCounts, IsAnalog, IsDigital, IsLineFrequency, IsOneRate, IsSampling, IsStamp, IsFileType, IsMultiplier}
+use Rattle.flk_cfg.specs.Places.{HasLine}
 use Rattle.flk_cfg.specs.File.{AreAnalogs, AreDigitals, AreSettings, IsConfig}
 use Rattle.flk_cfg.specs.Valid.{IsValue, IsValidAnalog, IsValidDigital, IsValidStamp, IsValid}
 use Rattle.flk_cfg.specs.Canonical.{form_text, title_fields, counts_fields, analog_fields, digital_fields, analog_lines, digital_lines, stamp_fields, setting_lines, all_lines, lines_text, canonical}

@@ -1,6 +1,6 @@
 -- The steps by which the canonical text is written.
 use Rattle.std.proofs.Common.{◌≡◌, ℕ, zero, suc, ◌+◌, ◌-◌, ◌/◌, ◌%◌, ◌^◌, ◌<◌, List, [], ◌∷◌, ◌++◌, length, refl, sym, ap, ◌∙◌, arith, append_assoc}
-use Rattle.flk_cfg.specs.Canonical.{padded, line_text, lines_text, title_fields, counts_fields, analog_lines, digital_lines, setting_lines, all_lines, canonical}
+use Rattle.flk_cfg.specs.Canonical.{padded, line_text, lines_text, title_fields, counts_fields, analog_lines, digital_lines, setting_lines, canonical}
 use Rattle.flk_cfg.specs.declared.config.Config.{Config}
 
 padded_more : (k n : ℕ) → padded (suc k) n ≡ (48 + n / 10 ^ k) ∷ padded k (n % 10 ^ k)

@@ -1,14 +1,11 @@
 -- Bytes write at most one configuration, and none where they have a first fault.
-use Rattle.std.proofs.Common.{◌≡◌, ℕ, ◌+◌, ◌<◌, List, [], length, get_or, refl, sym, ap, subst, ◌∙◌, arith, inl, inr, ℤ, pos, Bool}
-use Rattle.std.specs.Prelude.{slice_index_or}
+use Rattle.std.proofs.Common.{◌≡◌, ℕ, ◌+◌, List, length, get_or, refl, sym, ap, subst, ◌∙◌, arith, inl, inr, ℤ, pos, Bool}
 use Rattle.std.proofs.lemmas.List.{ext_get_or}
 use Rattle.flk_text.proofs.NumeralLemmas.{decimal_once}
-use Rattle.flk_cfg.specs.Dates.{IsDateOf, IsTimeOf}
-use Rattle.flk_cfg.specs.Table.{IsGoodLine, LineFault, row, title_row, last_row, setting_rows, at}
+use Rattle.flk_cfg.specs.Table.{IsGoodLine, title_row, at}
 use Rattle.flk_cfg.specs.Rows.{IsTitle, IsCounts, IsAnalog, IsDigital, IsLineFrequency, IsSampling, IsStamp, IsFileType, IsMultiplier, TitleFault, CountsFault}
-use Rattle.flk_cfg.specs.Places.{HasLine, HasLastLine, IsLineAt, IsLastLineAt}
-use Rattle.flk_cfg.specs.File.{IsConfig, AreAnalogs, AreDigitals, AreSettings, IsGoodAt, IsFirstFault, FaultFromSecond, FaultFromThird, FaultFromLast}
-use Rattle.flk_cfg.specs.Values.{IsWholeFrom}
+use Rattle.flk_cfg.specs.Places.{HasLine}
+use Rattle.flk_cfg.specs.File.{IsConfig, AreAnalogs, AreDigitals, AreSettings, IsFirstFault, FaultFromSecond, FaultFromThird, FaultFromLast}
 use Rattle.flk_cfg.specs.SettingParts.{setting_at, AreSettingLines}
 use Rattle.flk_cfg.specs.declared.config.Analog.{Analog}
 use Rattle.flk_cfg.specs.declared.config.Digital.{Digital}

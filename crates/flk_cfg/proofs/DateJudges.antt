@@ -1,14 +1,14 @@
 -- The text of a date or a time, and the numbers that are found in it.
-use Rattle.std.proofs.Common.{◌≡◌, ◌≢◌, ℕ, suc, ◌+◌, ◌-◌, ◌*◌, ◌^◌, ◌<◌, ◌≤◌, List, [], ◌∷◌, ◌++◌, length, length-append, fold, Bool, true, false, cond, eqb, ltb, leb, ◌&&◌, Option, Some, None, refl, sym, ap, subst, ◌∙◌, arith, inl, inr, ◌⊎◌, ℤ, pos, ◌≤ℤ◌}
+use Rattle.std.proofs.Common.{◌≡◌, ℕ, ◌+◌, ◌-◌, ◌*◌, ◌^◌, ◌<◌, ◌≤◌, List, [], ◌∷◌, ◌++◌, length, true, false, cond, eqb, ltb, leb, ◌&&◌, Some, None, refl, sym, ap, subst, ◌∙◌, arith, inl, inr, ℤ, pos, ◌≤ℤ◌}
 use Rattle.std.specs.List.{list_all}
 use Rattle.std.proofs.lemmas.List.{nil_from_length, append-nil}
-use Rattle.std.proofs.lemmas.Bool.{cases_Bool, eqb-true, leb-true, ltb-true, le-leb, lt-ltb, true≢false}
+use Rattle.std.proofs.lemmas.Bool.{cases_Bool, eqb-true, leb-true, ltb-true, le-leb, lt-ltb}
 use Rattle.std.proofs.Math.Nat.{mul-le-mul_right}
 use Rattle.flk_text.specs.Numeral.{is_digit, number_from, AreDigits}
 use Rattle.flk_text.specs.NumeralParts.{◌>>=◌}
-use Rattle.flk_text.proofs.NumeralLemmas.{some_is, guard_some, guard_not, bind_some}
+use Rattle.flk_text.proofs.NumeralLemmas.{some_is, guard_some, bind_some}
 use Rattle.flk_text.proofs.DigitRuns.{both_true, number_small}
-use Rattle.flk_text.proofs.PowersOfTen.{ten_pos, times_add, ten_grows}
+use Rattle.flk_text.proofs.PowersOfTen.{ten_pos, times_add}
 use Rattle.flk_cfg.specs.Dates.{IsNumber, IsDateText, IsDateForm, IsDateOf, IsSecondFraction, IsTimeText, IsTimeForm, IsTimeOf}
 use Rattle.std.proofs.lemmas.Int.{ints}
 use Rattle.jiff.specs.Words.{IsDate}

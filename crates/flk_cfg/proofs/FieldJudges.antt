@@ -1,11 +1,11 @@
 -- What the judges of single fields answer.
-use Rattle.std.proofs.Common.{◌≡◌, ◌≢◌, ℕ, ◌+◌, ◌<◌, ◌≤◌, List, [], ◌∷◌, ◌++◌, length, Bool, true, false, cond, refl, sym, ap, subst, ◌∙◌, arith, inl, inr, ◌⊎◌, ℤ, pos, negsuc, ◌≤ℤ◌, ◌<ℤ◌, Result, Ok, Err}
+use Rattle.std.proofs.Common.{◌≡◌, ◌≢◌, ℕ, List, subst, arith, ℤ, pos, ◌≤ℤ◌, Ok}
 use Rattle.std.proofs.lemmas.Int.{ints}
-use Rattle.flk_text.specs.Decimal.{IsDecimal, IsForm, IsAnswer}
-use Rattle.flk_text.specs.WholeNumber.{IsWholeValue, IsWholeForm, IsWholeAnswer}
+use Rattle.flk_text.specs.Decimal.{IsDecimal, IsForm}
+use Rattle.flk_text.specs.WholeNumber.{IsWholeValue, IsWholeForm}
 use Rattle.flk_text.proofs.NumeralLemmas.{decimal_once}
 use Rattle.flk_text.proofs.DecimalLaws.{one_whole_answer}
-use Rattle.flk_cfg.specs.Values.{IsWholeFrom, IsFrequency, IsCounted, EndsIn}
+use Rattle.flk_cfg.specs.Values.{IsWholeFrom, IsFrequency}
 
 -- a text is of one whole number
 pub whole_once : (text : List ℕ) (y z : ℤ) → IsWholeValue text y → IsWholeValue text z → y ≡ z

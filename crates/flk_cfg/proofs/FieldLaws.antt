@@ -1,22 +1,19 @@
 -- A field has one value in its set, and a field that isn't in its set has one kind of fault.
-use Rattle.std.proofs.Common.{◌≡◌, ◌≢◌, ℕ, ◌+◌, ◌-◌, ◌*◌, ◌^◌, ◌<◌, ◌≤◌, List, [], ◌∷◌, ◌++◌, length, length-append, get_or, take, Bool, true, false, cond, refl, sym, ap, subst, ◌∙◌, arith, inl, inr, ◌⊎◌, ℤ, pos, codes}
-use Rattle.std.specs.List.{list_all}
-use Rattle.std.specs.Str.{str_eq_ignore_ascii_case, str_to_ascii_lowercase, bytes_eq}
+use Rattle.std.proofs.Common.{◌≡◌, ℕ, ◌-◌, ◌^◌, List, [], ◌∷◌, ◌++◌, length, length-append, get_or, take, Bool, true, false, cond, refl, sym, ap, subst, ◌∙◌, arith, inl, inr, ℤ, pos, codes}
+use Rattle.std.specs.Str.{str_eq_ignore_ascii_case, str_to_ascii_lowercase}
 use Rattle.std.proofs.lemmas.Bool.{true≢false}
 use Rattle.std.proofs.lemmas.Slice.Eq.{bytes_eq-Decides}
 use Rattle.std.proofs.Math.Seq.{take-append_seam}
 use Rattle.flk_text.specs.Numeral.{Numeral, IsNumeral}
-use Rattle.flk_text.specs.Decimal.{IsDecimal, IsForm}
+use Rattle.flk_text.specs.Decimal.{IsForm}
 use Rattle.flk_text.proofs.NumeralLemmas.{decimal_once}
-use Rattle.flk_cfg.specs.Dates.{IsDateOf, IsTimeOf}
-use Rattle.flk_cfg.specs.Values.{IsText, IsWholeFrom, EndsIn, IsCounted, IsDecimalOrZero, IsFrequency, IsSide, IsBit, IsFormWord}
+use Rattle.flk_cfg.specs.Values.{IsWholeFrom, EndsIn, IsCounted, IsDecimalOrZero, IsSide, IsBit, IsFormWord}
 use Rattle.flk_cfg.specs.Table.{Set, Text, Revision, Total, Counted, Position, Decimal, DecimalOrZero, Side, Bit, Frequency, OneRate, SamplingRate, SampleCount, Date, Time, FormWord, IsIn, Refuses, NoWhole}
 use Rattle.flk_cfg.specs.declared.kind.Kind.{Kind}
 use Rattle.flk_cfg.specs.declared.kind.Kind.TheVariants as kinds
 use Rattle.flk_cfg.specs.declared.config.Form.{Form}
 use Rattle.flk_cfg.specs.declared.config.Form.TheVariants.{Ascii, Binary}
 use Rattle.flk_cfg.proofs.FieldJudges.{whole_once, whole_form}
-use Rattle.flk_cfg.proofs.DateJudges.{date_once, time_once}
 
 -- ---- values
 

@@ -1,11 +1,10 @@
 -- A line is good or has one first fault, and bytes have one value or one first fault.
-use Rattle.std.proofs.Common.{◌≡◌, ◌≢◌, ℕ, ◌+◌, ◌<◌, ◌≤◌, List, [], ◌∷◌, length, refl, sym, ap, subst, ◌∙◌, arith, inl, inr, ◌⊎◌}
+use Rattle.std.proofs.Common.{◌≡◌, ℕ, ◌+◌, List, [], ◌∷◌, length, sym, ap, subst, ◌∙◌, arith, inl, inr}
 use Rattle.std.proofs.lemmas.Bool.{cases_order}
-use Rattle.flk_text.specs.Tail.{IsTail}
-use Rattle.flk_cfg.specs.Table.{Set, IsIn, Refuses, at, FaultFrom, LineFault, InFrom, IsGoodLine, row, title_row, counts_row, last_row}
+use Rattle.flk_cfg.specs.Table.{Set, at, FaultFrom, LineFault, InFrom, IsGoodLine, row, title_row, counts_row, last_row}
 use Rattle.flk_cfg.specs.Rows.{TitleFault, AreCounts, IsCounts, CountsFault}
-use Rattle.flk_cfg.specs.Places.{IsLineAt, IsLastLineAt, HasLine, HasLastLine, FaultAt, LastFaultAt, after_lines}
-use Rattle.flk_cfg.specs.File.{IsGoodAt, FirstFaultAt, TailFault, FaultFromLast, FaultFromThird, FaultFromSecond, IsFirstFault}
+use Rattle.flk_cfg.specs.Places.{IsLineAt, IsLastLineAt, HasLine, HasLastLine, FaultAt, LastFaultAt}
+use Rattle.flk_cfg.specs.File.{IsGoodAt, FirstFaultAt, FaultFromLast, FaultFromThird, FaultFromSecond, IsFirstFault}
 use Rattle.flk_cfg.specs.declared.kind.Kind.{Kind}
 use Rattle.flk_cfg.proofs.Rows.{good_counts}
 use Rattle.flk_cfg.proofs.FieldLaws.{in_or_out, one_kind, whole_from_once, counted_once}

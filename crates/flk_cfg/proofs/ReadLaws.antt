@@ -1,10 +1,10 @@
 -- The values that the bytes of a file write are in their sets.
-use Rattle.std.proofs.Common.{◌≡◌, ◌≢◌, ℕ, zero, suc, ◌+◌, ◌-◌, ◌*◌, ◌^◌, ◌<◌, ◌≤◌, ◌≤ℤ◌, ◌⊎◌, ◌||◌, Bool, true, false, cond, eqb, List, [], ◌∷◌, length, get_or, take, drop, map, reverse, refl, sym, ap, subst, ◌∙◌, arith, inl, inr, ℤ, pos}
+use Rattle.std.proofs.Common.{◌≡◌, ◌≢◌, ℕ, zero, suc, ◌+◌, ◌-◌, ◌*◌, ◌^◌, ◌<◌, ◌≤◌, ◌≤ℤ◌, Bool, true, false, eqb, List, [], ◌∷◌, length, get_or, take, drop, map, reverse, refl, sym, ap, subst, ◌∙◌, arith, inl, inr, ℤ, pos}
 use Rattle.std.specs.Prelude.{not, All, unsigned_abs}
 use Rattle.std.specs.List.{list_all, slice_split, onto_first, prefix_len, suffix_len}
 use Rattle.std.proofs.lemmas.Int.{ints}
-use Rattle.std.proofs.lemmas.Bool.{and_parts, and_from, not-true, ne_eqb, eqb-true, eqb-false, cases_Bool, cases_lt}
-use Rattle.std.proofs.lemmas.List.{get_or-take, get_or-reverse, get_or-map, length-take, length-reverse, length-map}
+use Rattle.std.proofs.lemmas.Bool.{and_parts, and_from, not-true, ne_eqb, eqb-false, cases_Bool, cases_lt}
+use Rattle.std.proofs.lemmas.List.{get_or-take, get_or-reverse, length-take, length-reverse}
 use Rattle.std.proofs.lemmas.List.Sums.{prefix_len_stops}
 use Rattle.std.proofs.lemmas.List.Splits.{slice_split-cons_yes, slice_split-cons_no}
 use Rattle.std.proofs.Math.Nat.{mul-le-mul_right}
@@ -15,7 +15,7 @@ use Rattle.flk_text.proofs.PowersOfTen.{ten_pos, times_add}
 use Rattle.flk_text.proofs.DigitRuns.{number_small}
 use Rattle.flk_text.proofs.LineLaws.{no_lf_in_line}
 use Rattle.flk_cfg.specs.Values.{is_text_byte, IsText, HasText, IsDecimalOrZero}
-use Rattle.flk_cfg.specs.Dates.{IsSecondFraction, IsDateOf}
+use Rattle.flk_cfg.specs.Dates.{IsSecondFraction}
 use Rattle.flk_cfg.specs.Table.{at}
 use Rattle.flk_cfg.specs.Rows.{IsAnalog, IsDigital, IsStamp}
 use Rattle.flk_cfg.specs.Places.{HasLine, after_lines}

@@ -1,5 +1,5 @@
 -- The lines of a run, one after another.
-use Rattle.std.proofs.Common.{◌≡◌, ℕ, ◌+◌, ◌<◌, ◌≤◌, List, [], ◌∷◌, ◌++◌, length, refl, sym, ap, subst, ◌∙◌, arith, inl, inr, Result, Ok, Err, length-append, get_or, pos, false}
+use Rattle.std.proofs.Common.{◌≡◌, ℕ, ◌+◌, ◌<◌, List, [], ◌∷◌, ◌++◌, length, sym, ap, subst, ◌∙◌, arith, inl, inr, Result, length-append, get_or}
 use Rattle.std.specs.Prelude.{slice_index_or}
 use Rattle.std.specs.Result.{MatchResult, IsErrAnd}
 use Rattle.std.proofs.lemmas.Result.{err_from_is_err_and}
@@ -8,16 +8,15 @@ use Rattle.std.proofs.lemmas.List.{get_or_append_left}
 use Rattle.std.proofs.Math.Seq.{get_or-append_seam}
 use Rattle.flk_num.specs.declared.stop.Stop.{Stop}
 use Rattle.flk_num.specs.declared.stop.Stop.TheVariants as stop
-use Rattle.flk_cfg.specs.Table.{Set, IsGoodLine, LineFault, analog_row, digital_row}
+use Rattle.flk_cfg.specs.Table.{Set, IsGoodLine, LineFault}
 use Rattle.flk_cfg.specs.Rows.{IsAnalog, IsDigital}
 use Rattle.flk_cfg.specs.Places.{HasLine, FaultAt}
 use Rattle.flk_cfg.specs.File.{AreAnalogs, AreDigitals}
-use Rattle.flk_cfg.specs.Reading.{StandsAt, AreGood, FirstOf, Progress, StopIs}
+use Rattle.flk_cfg.specs.Reading.{StandsAt, FirstOf, Progress, StopIs}
 use Rattle.flk_cfg.specs.declared.reader.Reader.{Reader}
 use Rattle.flk_cfg.specs.declared.kind.Fault.{Fault}
 use Rattle.flk_cfg.specs.declared.config.Analog.{Analog}
 use Rattle.flk_cfg.specs.declared.config.Digital.{Digital}
-use Rattle.flk_cfg.proofs.Rows.{good_analog, good_digital}
 
 -- the exit of a `?` whose fault is passed on
 pub err_exit : {T : Type 0} (r : Result T Fault) (P : T → Type 0) (Q : Fault → Type 0) (f : Fault) → IsErrAnd r (λ y. y ≡ f) → Q f → MatchResult r P Q

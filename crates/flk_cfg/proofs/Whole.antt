@@ -1,10 +1,10 @@
 -- The parts of the answer for the whole file.
-use Rattle.std.proofs.Common.{◌≡◌, ℕ, zero, suc, ◌+◌, ◌-◌, ◌<◌, ◌≤◌, List, [], length, get_or, refl, sym, ap, subst, ◌∙◌, arith, inl, inr, pos, false}
+use Rattle.std.proofs.Common.{◌≡◌, ℕ, zero, suc, ◌+◌, ◌-◌, ◌<◌, ◌≤◌, List, [], length, sym, ap, subst, ◌∙◌, arith, inl, inr, pos, false}
 use Rattle.std.proofs.lemmas.Bool.{cases_lt}
-use Rattle.flk_cfg.specs.Table.{Set, IsGoodLine, LineFault, row, analog_row, digital_row, setting_rows}
-use Rattle.flk_cfg.specs.Rows.{IsTitle, IsCounts, IsAnalog, IsDigital}
+use Rattle.flk_cfg.specs.Table.{Set, IsGoodLine, LineFault, row, analog_row, digital_row}
+use Rattle.flk_cfg.specs.Rows.{IsTitle, IsCounts}
 use Rattle.flk_cfg.specs.Places.{HasLine, FaultAt}
-use Rattle.flk_cfg.specs.File.{AreAnalogs, AreDigitals, AreSettings, IsConfig, IsGoodAt, FirstFaultAt, FaultFromThird}
+use Rattle.flk_cfg.specs.File.{AreAnalogs, AreDigitals, AreSettings, IsConfig, IsGoodAt, FaultFromThird}
 use Rattle.flk_cfg.specs.Reading.{AreGood, FirstOf}
 use Rattle.flk_cfg.specs.SettingParts.{setting_at, AreSettingLines}
 use Rattle.flk_cfg.specs.declared.kind.Fault.{Fault}
@@ -12,7 +12,7 @@ use Rattle.flk_cfg.specs.declared.config.Analog.{Analog}
 use Rattle.flk_cfg.specs.declared.config.Digital.{Digital}
 use Rattle.flk_cfg.specs.declared.config.Config.{Config}
 use Rattle.flk_cfg.specs.declared.settings.Settings.{Settings}
-use Rattle.flk_cfg.proofs.Rows.{good_analog, good_digital, good_frequency, good_rates, good_sampling, good_stamp, good_form, row_analog, row_digital, row_setting}
+use Rattle.flk_cfg.proofs.Rows.{good_analog, good_digital, good_frequency, good_rates, good_sampling, good_stamp, good_form, row_analog}
 
 pub no_analog : Analog
 no_analog = record {

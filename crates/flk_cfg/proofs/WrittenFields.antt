@@ -1,17 +1,15 @@
 -- The fields of the canonical text: each is a field as it stands, and it writes its value.
-use Rattle.std.proofs.Common.{◌≡◌, ◌≢◌, ℕ, zero, suc, ◌+◌, ◌-◌, ◌*◌, ◌/◌, ◌%◌, ◌^◌, ◌<◌, ◌≤◌, ◌≤ℤ◌, ◌⊎◌, Bool, true, false, cond, eqb, leb, ◌&&◌, List, [], ◌∷◌, ◌++◌, length, get_or, refl, sym, ap, subst, ◌∙◌, arith, inl, inr, ℤ, pos, negsuc, length-append}
-use Rattle.std.specs.Prelude.{not, unsigned_abs, codes, ◌||◌}
+use Rattle.std.proofs.Common.{◌≡◌, ℕ, zero, suc, ◌+◌, ◌-◌, ◌*◌, ◌/◌, ◌%◌, ◌^◌, ◌<◌, ◌≤◌, true, false, eqb, leb, List, [], ◌∷◌, ◌++◌, length, refl, sym, ap, subst, ◌∙◌, arith, inl, inr, ℤ, pos}
+use Rattle.std.specs.Prelude.{not, unsigned_abs}
 use Rattle.std.specs.List.{list_all}
 use Rattle.std.specs.Fmt.{decimal}
-use Rattle.std.proofs.lemmas.Int.{ints}
-use Rattle.std.proofs.lemmas.Bool.{and_parts, and_from, not-true, ne_eqb, true≢false, cases_Bool, cases_lt, eqb-true, le-leb}
+use Rattle.std.proofs.lemmas.Bool.{and_parts, and_from, ne_eqb, true≢false, cases_lt, le-leb}
 use Rattle.std.proofs.Math.Nat.{mul-le-mul_right, mod-lt, div-add-mod'}
 use Rattle.flk_text.specs.Numeral.{is_digit, AreDigits, number_from}
-use Rattle.flk_text.specs.Decimal.{IsInSet, IsDecimal}
+use Rattle.flk_text.specs.Decimal.{IsInSet}
 use Rattle.flk_text.specs.WholeNumber.{IsWhole, IsWholeValue}
 use Rattle.flk_text.specs.PlainText.{plain}
 use Rattle.flk_text.specs.Lines.{Lacks}
-use Rattle.flk_text.specs.Fields.{trimmed, IsField}
 use Rattle.flk_text.proofs.PowersOfTen.{ten_more, ten_pos}
 use Rattle.flk_text.proofs.PlainTextLemmas.{plain_text, decimal_writes}
 use Rattle.flk_text.proofs.WrittenLaws.{stays, lacks_stays, IsApart, comma_apart, space_apart, lf_apart, numeral_lacks}

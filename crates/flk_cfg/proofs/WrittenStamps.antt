@@ -1,11 +1,11 @@
 -- Dates and times as they are written.
-use Rattle.std.proofs.Common.{◌≡◌, ℕ, ◌+◌, ◌-◌, ◌*◌, ◌/◌, ◌%◌, ◌^◌, ◌<◌, ◌≤◌, ◌≤ℤ◌, ◌⊎◌, Bool, true, false, cond, eqb, List, [], ◌∷◌, ◌++◌, length, refl, sym, ap, subst, ◌∙◌, arith, inl, inr, ℤ, pos, negsuc}
+use Rattle.std.proofs.Common.{◌≡◌, ℕ, ◌-◌, ◌*◌, ◌/◌, ◌%◌, ◌^◌, ◌<◌, ◌≤◌, ◌≤ℤ◌, Bool, true, false, cond, eqb, List, [], ◌∷◌, length, refl, sym, ap, subst, ◌∙◌, arith, inl, inr, ℤ, pos, negsuc}
 use Rattle.std.specs.Prelude.{unsigned_abs}
 use Rattle.std.proofs.lemmas.Int.{ints}
 use Rattle.std.proofs.lemmas.Bool.{cases_Bool, eqb-true}
-use Rattle.std.proofs.Math.Nat.{mod-lt, div-add-mod'}
+use Rattle.std.proofs.Math.Nat.{div-add-mod'}
 use Rattle.jiff.specs.Words.{days_in_month}
-use Rattle.flk_cfg.specs.Dates.{IsNumber, IsDateText, IsDateOf, IsSecondFraction, IsTimeText, IsTimeOf}
+use Rattle.flk_cfg.specs.Dates.{IsDateText, IsDateOf, IsSecondFraction, IsTimeText, IsTimeOf}
 use Rattle.flk_cfg.specs.Rows.{IsStamp}
 use Rattle.flk_cfg.specs.Valid.{IsValidStamp}
 use Rattle.flk_cfg.specs.Canonical.{padded, date_text, second_digits, time_text, stamp_fields}

@@ -1,14 +1,12 @@
 -- What the parts of the reader keep and answer. Only proofs use this file: `File` says what a configuration is.
 use Rattle.std.specs.Prelude.{◌≡◌, ◌≢◌, ℕ, ◌+◌, ◌<◌, ◌⊎◌, List, map, take, length}
-use Rattle.flk_text.specs.Tail.{IsTail}
 use Rattle.flk_num.specs.declared.stop.Stop.{Stop}
 use Rattle.flk_num.specs.declared.stop.Stop.TheVariants as stop
-use Rattle.flk_cfg.specs.Table.{Set, at, IsIn, Refuses, FaultFrom, LineFault, IsGoodLine, setting_rows}
-use Rattle.flk_cfg.specs.Places.{after_lines, IsLineAt, IsLastLineAt, HasLine, EndsAt, FaultAt}
+use Rattle.flk_cfg.specs.Table.{Set, at, Refuses, FaultFrom, LineFault, IsGoodLine}
+use Rattle.flk_cfg.specs.Places.{after_lines, IsLineAt, HasLine, EndsAt, FaultAt}
 use Rattle.flk_cfg.specs.declared.columns.Columns.{Columns}
 use Rattle.flk_cfg.specs.declared.reader.Reader.{Reader}
 use Rattle.flk_cfg.specs.declared.kind.Fault.{Fault}
-use Rattle.flk_cfg.specs.declared.kind.Kind.{Kind}
 use Rattle.flk_cfg.specs.declared.kind.Kind.TheVariants as kinds
 
 -- the fields of the line

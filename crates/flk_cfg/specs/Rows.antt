@@ -4,7 +4,7 @@ use Rattle.std.specs.Prelude.{◌≡◌, ◌≢◌, ℕ, ◌+◌, ◌-◌, ◌^�
 use Rattle.flk_text.specs.Decimal.{IsDecimal}
 use Rattle.flk_cfg.specs.Dates.{IsDateOf, IsTimeOf}
 use Rattle.flk_cfg.specs.Values.{HasText, IsWholeFrom, IsCounted, IsDecimalOrZero, IsFrequency, IsSide, IsBit, IsFormWord}
-use Rattle.flk_cfg.specs.Table.{at, title_row, counts_row, rate_units, LineFault, IsGoodLine}
+use Rattle.flk_cfg.specs.Table.{at, title_row, counts_row, rate_units, LineFault}
 use Rattle.flk_cfg.specs.declared.config.Analog.{Analog}
 use Rattle.flk_cfg.specs.declared.config.Digital.{Digital}
 use Rattle.flk_cfg.specs.declared.config.Form.{Form}

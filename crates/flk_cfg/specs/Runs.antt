@@ -1,5 +1,5 @@
 -- Runs of a row's columns, as the reader judges them. Only proofs use this file: `Rows` has the whole rows.
-use Rattle.std.specs.Prelude.{◌≡◌, ℕ, Bool, List, [], ◌∷◌, length}
+use Rattle.std.specs.Prelude.{ℕ, Bool, List, [], ◌∷◌}
 use Rattle.flk_text.specs.Decimal.{IsDecimal}
 use Rattle.flk_cfg.specs.Values.{IsText, IsWholeFrom, IsDecimalOrZero, IsSide, IsBit}
 use Rattle.flk_cfg.specs.Table.{Set, Text, Decimal, DecimalOrZero, Side, at}

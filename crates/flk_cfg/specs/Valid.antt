@@ -1,5 +1,5 @@
 -- The configurations that a file can write: what each of their values may be.
-use Rattle.std.specs.Prelude.{◌≡◌, ◌≢◌, ℕ, ◌-◌, ◌^◌, ◌<◌, ◌≤◌, ◌<ℤ◌, ◌≤ℤ◌, ◌⊎◌, ◌||◌, Bool, true, not, eqb, List, length, slice_index_or, All, ℤ, pos, unsigned_abs}
+use Rattle.std.specs.Prelude.{◌≡◌, ◌≢◌, ℕ, ◌-◌, ◌≤◌, ◌<ℤ◌, ◌≤ℤ◌, ◌⊎◌, ◌||◌, Bool, true, not, eqb, List, length, slice_index_or, All, ℤ, pos, unsigned_abs}
 use Rattle.std.specs.List.{list_all}
 use Rattle.jiff.specs.Words.{IsDate}
 use Rattle.flk_text.specs.Decimal.{IsInSet}

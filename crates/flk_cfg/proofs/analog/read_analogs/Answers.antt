@@ -1,4 +1,4 @@
-use Rattle.std.proofs.Common.{◌≡◌, ◌+◌, ◌++◌, ◌∷◌, [], ◌<◌, ℕ, List, length, length-append, ap, arith, subst, sym}
+use Rattle.std.proofs.Common.{◌≡◌, ◌+◌, ◌++◌, ◌∷◌, [], ℕ, List, length, length-append, ap, arith, subst, sym}
 use Rattle.flk_cfg.specs.Table.{analog_row}
 use Rattle.flk_cfg.specs.File.{AreAnalogs}
 use Rattle.flk_cfg.specs.Reading.{FirstOf, StandsAt}

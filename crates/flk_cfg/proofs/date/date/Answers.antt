@@ -1,6 +1,6 @@
-use Rattle.std.proofs.Common.{◌≡◌, Some, None, pos, refl, inl, rules, sym}
+use Rattle.std.proofs.Common.{◌≡◌, Some, None, pos, refl, inl, rules}
 use Rattle.flk_cfg.specs.Table.{Refuses}
-use Rattle.flk_cfg.specs.DateParts.{date_of, DateNumbers}
+use Rattle.flk_cfg.specs.DateParts.{date_of}
 use Rattle.flk_cfg.proofs.DateJudges.{no_date, date_in, date_out, date_numbers}
 use Rattle.flk_cfg.proofs.date.date.Goals as goal
 

@@ -1,4 +1,4 @@
-use Rattle.std.proofs.Common.{◌≡◌, ◌≤◌, Some, None, refl, inl, rules, sym}
+use Rattle.std.proofs.Common.{◌≡◌, ◌≤◌, Some, None, refl, inl, rules}
 use Rattle.flk_cfg.specs.Table.{Refuses}
 use Rattle.flk_cfg.specs.DateParts.{time_of}
 use Rattle.flk_cfg.proofs.DateJudges.{no_time, time_in, time_out, time_numbers}

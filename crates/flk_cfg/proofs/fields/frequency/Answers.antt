@@ -1,4 +1,4 @@
-use Rattle.std.proofs.Common.{◌≡◌, ◌≤ℤ◌, pos, arith, rules, refl, inr, Err}
+use Rattle.std.proofs.Common.{◌≤ℤ◌, pos, arith, refl, inr, Err}
 use Rattle.std.proofs.lemmas.Int.{ints}
 use Rattle.flk_text.specs.Decimal.{IsDecimal, IsAnswer}
 use Rattle.flk_text.specs.declared.decimals.NumFault.TheVariants.{Range}

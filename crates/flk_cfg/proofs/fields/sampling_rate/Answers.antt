@@ -1,4 +1,4 @@
-use Rattle.std.proofs.Common.{◌≡◌, ◌≢◌, refl, inr, rules}
+use Rattle.std.proofs.Common.{◌≢◌, refl, inr, rules}
 use Rattle.flk_text.specs.Decimal.{IsDecimal}
 use Rattle.flk_cfg.specs.Table.{Refuses, rate_units}
 use Rattle.flk_cfg.proofs.FieldJudges.{decimal_form, other_rate}

@@ -1,4 +1,4 @@
-use Rattle.std.proofs.Common.{◌≡◌, ◌+◌, ◌<◌, ◌≤◌, ℕ, List, arith, inl, inr, subst, sym, length}
+use Rattle.std.proofs.Common.{◌≡◌, ◌+◌, ℕ, arith, inl, inr, subst}
 use Rattle.flk_num.specs.declared.stop.Stop.TheVariants as stop
 use Rattle.flk_cfg.specs.Table.{IsGoodLine, title_row, analog_row, digital_row}
 use Rattle.flk_cfg.specs.Places.{HasLine}

@@ -1,4 +1,4 @@
-use Rattle.std.proofs.Common.{◌≡◌, ◌<◌, ◌-◌, ◌^◌, ◌++◌, ℕ, List, ap, sym, ◌∙◌, append-nil, arith, rules}
+use Rattle.std.proofs.Common.{◌≡◌, ◌-◌, ◌^◌, ◌++◌, ℕ, List, ap, sym, ◌∙◌, append-nil, arith, rules}
 use Rattle.std.proofs.Math.Nat.{mod-lt}
 use Rattle.flk_text.proofs.PowersOfTen.{ten_pos}
 use Rattle.flk_cfg.specs.Canonical.{padded}

@@ -1,6 +1,6 @@
-use Rattle.std.proofs.Common.{◌≡◌, ◌+◌, ◌<◌, ℕ, List, arith, subst}
+use Rattle.std.proofs.Common.{◌≡◌, ◌+◌, ◌<◌, ℕ, arith, subst}
 use Rattle.flk_cfg.specs.SettingParts.{setting_at, AreSettingLines}
-use Rattle.flk_cfg.specs.Reading.{FirstOf, StandsAt}
+use Rattle.flk_cfg.specs.Reading.{FirstOf}
 use Rattle.flk_cfg.specs.Rows.{IsLineFrequency}
 use Rattle.flk_cfg.specs.Places.{HasLine}
 use Rattle.flk_cfg.proofs.Rows.{good_frequency, good_rates, good_sampling, good_stamp, good_form}

@@ -1,4 +1,4 @@
-use Rattle.std.proofs.Common.{◌≡◌, ◌≢◌, ◌%◌, ◌≤◌, arith}
+use Rattle.std.proofs.Common.{◌≡◌, ◌≢◌, ◌%◌, arith}
 use Rattle.flk_cfg.proofs.ValidLemmas.{tenth_front, tenth_long, long_here}
 use Rattle.flk_cfg.proofs.valid.is_short.Goals as goal
 

@@ -1,4 +1,4 @@
-use Rattle.std.proofs.Common.{◌≡◌, ◌≤◌, ◌^◌, rules, arith, ap, subst, sym}
+use Rattle.std.proofs.Common.{◌≡◌, ◌≤◌, ◌^◌, rules, arith}
 use Rattle.std.specs.Prelude.{unsigned_abs}
 use Rattle.flk_cfg.proofs.ValidLemmas.{in_set}
 use Rattle.flk_cfg.proofs.valid.is_value.Goals as goal

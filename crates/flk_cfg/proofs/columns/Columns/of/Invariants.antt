@@ -1,4 +1,4 @@
-use Rattle.std.proofs.Common.{◌≡◌, ◌≤◌, ◌++◌, map, take, length}
+use Rattle.std.proofs.Common.{◌≡◌, ◌++◌, map, take, length}
 use Rattle.flk_text.specs.Fields.{fields}
 use Rattle.flk_cfg.proofs.columns.Columns.of.Given as goal
 
