@@ -38,32 +38,43 @@ def make(folder, records):
             f.write(b"".join(struct.pack("<IIh", first + k + 1, 0, samples[k]) for k in range(count)))
 
 
-def run(words):
-    """The seconds, the peak of memory in MB and the output of one run."""
+def run(words, folder=None, status=0):
+    """The seconds, the peak of memory in MB and the output of one run in a folder, which must end with a status."""
     start = time.perf_counter()
-    child = subprocess.Popen(words, stdout=subprocess.PIPE)
+    child = subprocess.Popen(words, cwd=folder, stdout=subprocess.PIPE)
     out = child.stdout.read()
-    _, status, usage = os.wait4(child.pid, 0)
+    _, ended, usage = os.wait4(child.pid, 0)
     seconds = time.perf_counter() - start
-    if status != 0:
-        sys.exit("%s ended with %d: %s" % (words[0], status, out))
+    if os.waitstatus_to_exitcode(ended) != status:
+        sys.exit("%s ended with %d: %s" % (words[0], ended, out))
     return seconds, usage.ru_maxrss / 1000, out
+
+
+def built():
+    """The path of the built program."""
+    program = os.path.join(TOP, "crates", "flicker", "out", "flicker")
+    if not os.path.exists(program):
+        sys.exit("build the program first: ./flicker")
+    return program
+
+
+def plain(folder, name):
+    """The path of a plain Rust program, built under a folder."""
+    target = os.path.join(folder, "target")
+    subprocess.run(["cargo", "build", "--release", "--quiet", "--offline", "--target-dir", target], cwd=PLAIN, check=True)
+    return os.path.join(target, "release", name)
 
 
 def main():
     records = int(sys.argv[1]) if len(sys.argv) > 1 else 20_000_000
     runs = int(sys.argv[2]) if len(sys.argv) > 2 else 5
-    program = os.path.join(TOP, "crates", "flicker", "out", "flicker")
-    if not os.path.exists(program):
-        sys.exit("build the program first: ./flicker")
+    program = built()
     with tempfile.TemporaryDirectory() as folder:
-        target = os.path.join(folder, "target")
-        subprocess.run(["cargo", "build", "--release", "--quiet", "--offline", "--target-dir", target], cwd=PLAIN, check=True)
         make(folder, records)
         cfg, dat = os.path.join(folder, "rec.cfg"), os.path.join(folder, "rec.dat")
         both = {
             "flicker": [program, "levels", cfg, dat, "1", "230000", "6250"],
-            "plain Rust": [os.path.join(target, "release", "plain"), cfg, dat, "230000", "6250"],
+            "plain Rust": [plain(folder, "levels"), cfg, dat, "230000", "6250"],
         }
         best, peak, texts = {}, {}, set()
         for _ in range(runs):
