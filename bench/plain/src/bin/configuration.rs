@@ -216,14 +216,11 @@ struct Config {
 
 fn read(lines: &mut Lines) -> Judged<Config> {
     let mut config = Config::default();
-    if let Err(fault) = lines.take(3, false) {
-        if lines.fields.len() != 2 || fault.1 == END {
-            return Err(fault);
-        }
-        config.station = words(lines.fields[0], 1)?;
-        config.device = words(lines.fields[1], 2)?;
+    let cut = lines.take(3, false);
+    if lines.fields.len() == 2 {
         return Err((3, REVISION));
     }
+    cut?;
     config.station = words(lines.fields[0], 1)?;
     config.device = words(lines.fields[1], 2)?;
     if lines.fields[2] != b"1999" {
