@@ -1,8 +1,8 @@
 -- The order of fractions.
-use Rattle.std.proofs.Common.{◌≡◌, ◌⊎◌, inl, inr, pos, ◌*ℤ◌, arith}
+use Rattle.std.proofs.Common.{◌⊎◌, inl, inr, pos, ◌*ℤ◌, arith}
 use Rattle.std.specs.Prelude.{◌↔◌}
 use Rattle.std.proofs.lemmas.Int.{ints, by_lt_z}
-use Rattle.flk_exact.specs.Fraction.{Fraction, ◌≤ℚ◌}
+use Rattle.flk_exact.specs.Fraction.{Fraction, ◌≤ℚ◌, ◌≈ℚ◌}
 use Rattle.flk_exact.proofs.WholeLemmas.{assoc-*ℤ, scale_≤, cancel_≤}
 
 pub ≤ℚ-refl : (p : Fraction) → p ≤ℚ p
@@ -32,6 +32,6 @@ pub ≤ℚ-total : (p q : Fraction) → (p ≤ℚ q) ⊎ (q ≤ℚ p)
     (λ more. inr record { cross = omega (arith, ints) })
     (λ within. inl record { cross = within })
 
--- two fractions are each at most the other exactly where the cross products are equal
-pub ≤ℚ-both : (p q : Fraction) → ((p ≤ℚ q) × (q ≤ℚ p)) ↔ (p.num *ℤ pos q.den ≡ q.num *ℤ pos p.den)
-≤ℚ-both p q = (λ h. omega (arith, ints, h.0.cross, h.1.cross), λ e. (record { cross = omega (arith, ints, e) }, record { cross = omega (arith, ints, e) }))
+-- two fractions are each at most the other exactly where they are the same number
+pub ≤ℚ-both : (p q : Fraction) → ((p ≤ℚ q) × (q ≤ℚ p)) ↔ (p ≈ℚ q)
+≤ℚ-both p q = (λ h. record { cross = omega (arith, ints, h.0.cross, h.1.cross) }, λ e. (record { cross = omega (arith, ints, e.cross) }, record { cross = omega (arith, ints, e.cross) }))

@@ -2,6 +2,8 @@ pub mod WholeLemmas
 pub mod RoundingLemmas
 pub mod RootLemmas
 pub mod FractionLemmas
+pub mod ProductLemmas
+pub mod NumeratorLemmas
 pub mod ListLemmas
 pub mod CutLemmas
 pub mod RunLemmas
