@@ -1,3 +1,4 @@
 pub mod SquareLemmas
 pub mod ScaledLemmas
 pub mod RootLemmas
+pub mod QuotientLemmas

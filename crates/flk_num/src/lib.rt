@@ -17,7 +17,7 @@ mod stop;
 pub use interval::Interval;
 pub use lamp::Lamp;
 pub use list::List;
-pub use quotient::{ceil_div, floor_div, scaled_ceil, scaled_floor};
+pub use quotient::{ceil_div, floor_div, quotient_out, scaled_ceil, scaled_floor};
 pub use root::root_floor;
 pub use square::square_out;
 pub use stop::Stop;

@@ -1,9 +1,11 @@
 //! Quotients, rounded down and up. The numbers are in any units: a quotient is in the unit of the dividend over that of the
 //! divisor.
 
-ghost use Rattle.std.specs.Prelude.{◌≡◌, ◌+◌, ◌*◌, ◌^◌, ◌<◌, pos, ◌*ℤ◌, ◌≤ℤ◌, ◌<ℤ◌};
+ghost use Rattle.std.specs.Prelude.{◌≡◌, ◌+◌, ◌*◌, ◌^◌, ◌<◌, ◌≤◌, pos, ◌*ℤ◌, ◌≤ℤ◌, ◌<ℤ◌};
 ghost use Rattle.std.specs.Int.RustNames.{unsigned_abs};
 ghost use Rattle.flk_exact.specs.Rounding.{floor_of, ceil_of, IsFloor, IsCeil};
+
+use crate::interval::Interval;
 
 /// `a / b`, rounded down, for a positive `b`: the greatest whole number that is at most it.
 pub fn floor_div(a: i128, b: i128) -> i128
@@ -25,6 +27,34 @@ pub fn ceil_div(a: i128, b: i128) -> i128
         quotient
     } else {
         quotient + 1
+    }
+}
+
+// `a * 2^shift`.
+fn shifted(a: i128, shift: u32) -> i128
+    requires low { pos 0 ≤ℤ a }
+    requires high { (a *ℤ pos (2 ^ shift)) <ℤ pos (2 ^ 126) }
+    requires shift { shift ≤ 64 }
+    ensures { result ≡ a *ℤ pos (2 ^ shift) }
+{
+    a << shift
+}
+
+/// The least of the quotients `x * 2^shift / y`, rounded down, and the greatest, rounded up, for every x of the interval `a` and
+/// every y of `b`. `a` is not below 0 and `b` is positive; `shift` is at most 64, and `a.hi * 2^shift` is below 2^126.
+pub fn quotient_out(a: Interval, b: Interval, shift: u32) -> Interval
+    requires a_low { pos 0 ≤ℤ a.lo }
+    requires a_high { (a.hi *ℤ pos (2 ^ shift)) <ℤ pos (2 ^ 126) }
+    requires b_low { pos 0 <ℤ b.lo }
+    requires shift { shift ≤ 64 }
+    ensures lo { result.lo ≡ floor_of (a.lo *ℤ pos (2 ^ shift)) b.hi }
+    ensures hi { result.hi ≡ ceil_of (a.hi *ℤ pos (2 ^ shift)) b.lo }
+    ensures lo_rounding { IsFloor (a.lo *ℤ pos (2 ^ shift)) b.hi result.lo }
+    ensures hi_rounding { IsCeil (a.hi *ℤ pos (2 ^ shift)) b.lo result.hi }
+{
+    Interval {
+        lo: floor_div(shifted(a.lo, shift), b.hi),
+        hi: ceil_div(shifted(a.hi, shift), b.lo),
     }
 }
 

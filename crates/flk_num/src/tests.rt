@@ -1,6 +1,8 @@
 //! Values that were computed by long arithmetic elsewhere.
 
-use crate::{Interval, ceil_div, floor_div, root_floor, scaled_ceil, scaled_floor, square_out};
+use crate::{
+    Interval, ceil_div, floor_div, quotient_out, root_floor, scaled_ceil, scaled_floor, square_out,
+};
 
 #[test]
 fn quotients(rt: HostRuntime) {
@@ -39,6 +41,33 @@ fn quotients(rt: HostRuntime) {
     assert_eq!(rt;
         scaled_ceil(v, 1_073_741_824, 3_298_534_883_328),
         -2_417_851_639_229_258_349_412_352
+    );
+}
+
+#[test]
+fn quotients_of_intervals(rt: HostRuntime) {
+    // 3 * 2^4 / 7 and 5 * 2^4 / 6
+    assert_eq!(rt;
+        quotient_out(Interval { lo: 3, hi: 5 }, Interval { lo: 6, hi: 7 }, 4),
+        Interval { lo: 6, hi: 14 }
+    );
+    // whole quotients
+    assert_eq!(rt;
+        quotient_out(Interval { lo: 0, hi: 12 }, Interval { lo: 6, hi: 6 }, 0),
+        Interval { lo: 0, hi: 2 }
+    );
+    // a dividend of nearly 2^126
+    let high = 4_611_686_018_427_387_903;
+    assert_eq!(rt;
+        quotient_out(
+            Interval { lo: high, hi: high },
+            Interval { lo: 1, hi: 5 },
+            64
+        ),
+        Interval {
+            lo: 17_014_118_346_046_923_169_479_381_556_846_500_249,
+            hi: 85_070_591_730_234_615_847_396_907_784_232_501_248
+        }
     );
 }
 
