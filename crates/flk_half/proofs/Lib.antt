@@ -1,0 +1,3 @@
+pub mod CutterLemmas
+pub mod EnclosureLemmas
+pub mod WidthLemmas
