@@ -1,0 +1,6 @@
+pub mod VoltageLemmas
+mod PartsLemmas
+mod SlopeLemmas
+mod SamplesLemmas
+mod UnitLemmas
+mod ScaleLemmas

@@ -1,0 +1,7 @@
+-- A quotient with the rest over its divisor.
+use Rattle.std.specs.Prelude.{ℕ, ℤ, pos, ◌+ℤ◌, ◌*ℤ◌}
+use Rattle.flk_scale.specs.declared.parts.Parts.{Parts}
+
+-- the dividend: the quotient times the divisor, and the rest
+abbrev pub dividend : Parts → ℕ → ℤ
+dividend p divisor = p.quotient *ℤ pos divisor +ℤ pos p.rest
