@@ -1,0 +1,79 @@
+-- The least and the greatest ends of half-periods are those of the lists of ends.
+use Rattle.std.proofs.Common.{◌≡◌, inl, inr, ℕ, ◌<◌, List, length, get_or, drop, ◌≤◌, ℤ, ◌≤ℤ◌, sym, ap, ◌∙◌, subst, arith}
+use Rattle.std.specs.Int.{int_min, int_max}
+use Rattle.std.specs.List.{Contains, fold}
+use Rattle.std.proofs.lemmas.Int.{ints, fold-int_max_bounds, fold-int_max_reached, fold-int_min_bounds, fold-int_min_reached}
+use Rattle.std.proofs.lemmas.List.{length-map, at_drop_all}
+use Rattle.std.proofs.lemmas.List.Folds.{fold-map}
+use Rattle.std.proofs.lemmas.List.Elements.{Contains-get_or, All-contains}
+use Rattle.flk_exact.specs.Extreme.{IsLeast, IsGreatest}
+use Rattle.flk_num.specs.declared.interval.Interval.{Interval}
+use Rattle.flk_change.specs.Values.{lows, highs}
+use Rattle.flk_change.specs.Extremes.{least_low, greatest_low, least_high, greatest_high}
+use Rattle.flk_change.proofs.SumLemmas.{lows-get_or, highs-get_or}
+
+least_of : (xs : List ℤ) (a r : ℤ) → r ≡ fold int_min a xs → Contains xs a → IsLeast xs r
+least_of xs a r e there = record {
+  among = elim (fold-int_min_reached a xs r e) [ inl same ↦ subst (Contains xs) (sym same) there | inr here ↦ here ];
+  at_most = (fold-int_min_bounds a xs r e).1;
+}
+
+greatest_of : (xs : List ℤ) (a r : ℤ) → r ≡ fold int_max a xs → Contains xs a → IsGreatest xs r
+greatest_of xs a r e there = record {
+  among = elim (fold-int_max_reached a xs r e) [ inl same ↦ subst (Contains xs) (sym same) there | inr here ↦ here ];
+  at_least = (fold-int_max_bounds a xs r e).1;
+}
+
+-- a half-period of the list has its ends among the ends
+pub low_there : (halves : List Interval) (v : Interval) → Contains halves v → Contains (lows halves) v.lo
+low_there halves v h =
+    let i = h.0 in
+    let at : get_or (lows halves) i v.lo ≡ v.lo = lows-get_or halves i v v.lo h.1 ∙ ap (λ (u : Interval). u.lo) h.2 in
+    (i, omega (arith, h.1, length-map halves (λ (u : Interval). u.lo)), at)
+
+pub high_there : (halves : List Interval) (v : Interval) → Contains halves v → Contains (highs halves) v.hi
+high_there halves v h =
+    let i = h.0 in
+    let at : get_or (highs halves) i v.hi ≡ v.hi = highs-get_or halves i v v.hi h.1 ∙ ap (λ (u : Interval). u.hi) h.2 in
+    (i, omega (arith, h.1, length-map halves (λ (u : Interval). u.hi)), at)
+
+pub least_low_is : (halves : List Interval) (v : Interval) (r : ℤ) → r ≡ least_low v.lo halves → Contains halves v → IsLeast (lows halves) r
+least_low_is halves v r e there = least_of (lows halves) v.lo r (e ∙ sym (fold-map int_min (λ (h : Interval). h.lo) v.lo halves)) (low_there halves v there)
+
+pub greatest_low_is : (halves : List Interval) (v : Interval) (r : ℤ) → r ≡ greatest_low v.lo halves → Contains halves v → IsGreatest (lows halves) r
+greatest_low_is halves v r e there = greatest_of (lows halves) v.lo r (e ∙ sym (fold-map int_max (λ (h : Interval). h.lo) v.lo halves)) (low_there halves v there)
+
+pub least_high_is : (halves : List Interval) (v : Interval) (r : ℤ) → r ≡ least_high v.hi halves → Contains halves v → IsLeast (highs halves) r
+least_high_is halves v r e there = least_of (highs halves) v.hi r (e ∙ sym (fold-map int_min (λ (h : Interval). h.hi) v.hi halves)) (high_there halves v there)
+
+pub greatest_high_is : (halves : List Interval) (v : Interval) (r : ℤ) → r ≡ greatest_high v.hi halves → Contains halves v → IsGreatest (highs halves) r
+greatest_high_is halves v r e there = greatest_of (highs halves) v.hi r (e ∙ sym (fold-map int_max (λ (h : Interval). h.hi) v.hi halves)) (high_there halves v there)
+
+-- the ends at which they are reached, by the half-period
+pub low_owner : (halves : List Interval) (z : ℤ) → Contains (lows halves) z → (v : Interval) × Contains halves v × (v.lo ≡ z)
+low_owner halves z h =
+    let i = h.0 in
+    let d : Interval = record { lo = z; hi = z; ordered = omega (arith, ints) } in
+    let there : i < length halves = omega (arith, h.1, length-map halves (λ (u : Interval). u.lo)) in
+    (get_or halves i d, Contains-get_or halves i d there, sym (lows-get_or halves i d z there) ∙ h.2)
+
+pub high_owner : (halves : List Interval) (z : ℤ) → Contains (highs halves) z → (v : Interval) × Contains halves v × (v.hi ≡ z)
+high_owner halves z h =
+    let i = h.0 in
+    let d : Interval = record { lo = z; hi = z; ordered = omega (arith, ints) } in
+    let there : i < length halves = omega (arith, h.1, length-map halves (λ (u : Interval). u.hi)) in
+    (get_or halves i d, Contains-get_or halves i d there, sym (highs-get_or halves i d z there) ∙ h.2)
+
+-- ---- a walk over a list that begins with its first half-period
+
+pub span_low : (halves : List Interval) (i : ℕ) (m a : ℤ) (v : Interval) → length halves ≤ i → least_low m (drop i halves) ≡ least_low a halves → a ≡ v.lo → v ≡ get_or halves 0 v → 0 < length halves → IsLeast (lows halves) m
+span_low halves i m a v done kept first is some =
+    least_low_is halves v m (sym (at_drop_all (least_low m) halves i done) ∙ kept ∙ ap (λ (z : ℤ). least_low z halves) first) (0, some, sym is)
+
+pub span_high : (halves : List Interval) (i : ℕ) (m a : ℤ) (v : Interval) → length halves ≤ i → greatest_high m (drop i halves) ≡ greatest_high a halves → a ≡ v.hi → v ≡ get_or halves 0 v → 0 < length halves → IsGreatest (highs halves) m
+span_high halves i m a v done kept first is some =
+    greatest_high_is halves v m (sym (at_drop_all (greatest_high m) halves i done) ∙ kept ∙ ap (λ (z : ℤ). greatest_high z halves) first) (0, some, sym is)
+
+pub span_ordered : (halves : List Interval) (m k : ℤ) (v : Interval) → IsLeast (lows halves) m → IsGreatest (highs halves) k → Contains halves v → m ≤ℤ k
+span_ordered halves m k v low high there =
+    omega (arith, ints, v.ordered, All-contains (λ x. m ≤ℤ x) (lows halves) v.lo low.at_most (low_there halves v there), All-contains (λ x. x ≤ℤ k) (highs halves) v.hi high.at_least (high_there halves v there))

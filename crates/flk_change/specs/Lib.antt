@@ -1,0 +1,6 @@
+pub mod Values
+pub mod Steady
+pub mod Changes
+pub mod Resolutions
+pub mod Pass
+pub mod Extremes

@@ -1,0 +1,48 @@
+//! The wide intervals, where the doubt is not resolved.
+
+ghost use Rattle.std.specs.Prelude.{◌<◌, All, length};
+ghost use Rattle.flk_exact.specs.Extreme.{IsLeast, IsGreatest};
+ghost use Rattle.flk_change.specs.Values.{lows, highs, IsInRange};
+ghost use Rattle.flk_change.specs.Resolutions.{AreWide};
+
+use crate::ends::{NOMINAL, distance};
+use crate::extremes::{extremes_of, with_half};
+use crate::pass::Outcome;
+use flk_num::Interval;
+
+// The least lo and the greatest hi.
+fn span(halves: &[Interval]) -> Interval
+    requires { 0 < length halves.now }
+    ensures low { IsLeast (lows halves.now) result.lo }
+    ensures high { IsGreatest (highs halves.now) result.hi }
+{
+    let mut extremes = extremes_of(halves[0]);
+    for v in halves {
+        extremes = with_half(extremes, *v);
+    }
+    Interval {
+        lo: extremes.least_low,
+        hi: extremes.greatest_high,
+    }
+}
+
+/// Intervals from 0 that hold dc, dmax and Tmax whichever windows are steady.
+pub(crate) fn wide(halves: &[Interval]) -> Outcome
+    requires some { 0 < length halves.now }
+    requires in_range { All IsInRange halves.now }
+    ensures { AreWide halves.now result.dc result.dmax result.t }
+{
+    let all = span(halves);
+    let width = all.hi - all.lo;
+    Outcome {
+        dc: Interval { lo: 0, hi: width },
+        dmax: Interval {
+            lo: 0,
+            hi: width.max(distance(all, NOMINAL).hi),
+        },
+        t: Interval {
+            lo: 0,
+            hi: halves.len() as i128,
+        },
+    }
+}
