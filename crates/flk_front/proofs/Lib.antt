@@ -1,0 +1,12 @@
+pub mod MeanSteps
+pub mod PointSteps
+pub mod Numerators
+pub mod SquareSteps
+pub mod MeanLemmas
+pub mod HeldMeans
+pub mod NearMeans
+pub mod EnclosureLemmas
+pub mod WidthLemmas
+pub mod AdaptorLaws
+pub mod OutputSteps
+pub mod RunLemmas

@@ -1,0 +1,4 @@
+pub mod Adaptor
+pub mod Rounded
+pub mod Front
+pub mod Width

@@ -1,0 +1,127 @@
+//! The rounded steps of the adaptor: each takes two ends and answers two ends.
+
+ghost use Rattle.std.specs.Prelude.{◌≡◌, ◌*◌, ◌^◌, ◌≤◌};
+ghost use Rattle.std.specs.Int.{div_ceil};
+ghost use Rattle.flk_num.specs.Square.{least_size, greatest_size};
+ghost use Rattle.flk_front.specs.Adaptor.{exponent};
+ghost use Rattle.flk_front.specs.Rounded.{greatest_end, IsSmall, squares_of, next_mean, divisor_of, output_of};
+
+use flk_num::{Interval, square_out};
+
+/// A lower and an upper end, in one unit.
+#[derive(Clone, Copy, Debug, PartialEq, Eq)]
+pub struct Ends {
+    pub lo: u128,
+    pub hi: u128,
+}
+
+// A sample counts for one part in 2^16 of the mean.
+const EXPONENT: u32 = 16;
+
+// 2^62, a quarter in units of 2^-64.
+const QUARTER: u128 = 4_611_686_018_427_387_904;
+
+// The least and the greatest square of a voltage of `v`, in units of 2^-96.
+fn exact_squares(v: Interval) -> Ends
+    requires { IsSmall v }
+    ensures least { result.lo ≡ least_size v.lo v.hi * least_size v.lo v.hi }
+    ensures greatest { result.hi ≡ greatest_size v.lo v.hi * greatest_size v.lo v.hi }
+    ensures ordered { result.lo ≤ result.hi }
+    ensures small { result.hi ≤ greatest_end * greatest_end }
+{
+    let squares = square_out(v);
+    Ends {
+        lo: squares.lo as u128,
+        hi: squares.hi as u128,
+    }
+}
+
+/// The least and the greatest square of a voltage of `v`, in units of 2^-48, rounded down and up.
+pub fn rounded_squares(v: Interval) -> Ends
+    requires { IsSmall v }
+    ensures value { result ≡ squares_of v }
+    ensures ordered { result.lo ≤ result.hi }
+    ensures small { 2 * result.hi ≤ 33 * 2 ^ 48 }
+{
+    let squares = exact_squares(v);
+    Ends {
+        lo: squares.lo >> 48,
+        hi: squares.hi.div_ceil(1 << 48),
+    }
+}
+
+/// The mean after a sample with these squares, in units of 2^-64.
+pub fn mean_after(mean: Ends, squares: Ends) -> Ends
+    requires ordered { mean.lo ≤ mean.hi }
+    requires small { mean.hi ≤ 17 * 2 ^ 64 }
+    requires squares_ordered { squares.lo ≤ squares.hi }
+    requires squares_small { 2 * squares.hi ≤ 33 * 2 ^ 48 }
+    ensures value { result ≡ next_mean exponent mean squares }
+    ensures ordered { result.lo ≤ result.hi }
+    ensures small { result.hi ≤ 17 * 2 ^ 64 }
+{
+    Ends {
+        lo: mean.lo - mean.lo.div_ceil(1 << EXPONENT) + squares.lo,
+        hi: mean.hi - (mean.hi >> EXPONENT) + squares.hi,
+    }
+}
+
+/// By which a square is divided: the mean, and at least a quarter, in units of 2^-64.
+pub fn divisor(mean: Ends) -> Ends
+    requires ordered { mean.lo ≤ mean.hi }
+    requires small { mean.hi ≤ 17 * 2 ^ 64 }
+    ensures value { result ≡ divisor_of mean }
+    ensures low { 2 ^ 62 ≤ result.lo }
+    ensures ordered { result.lo ≤ result.hi }
+    ensures small { result.hi ≤ 17 * 2 ^ 64 }
+{
+    Ends {
+        lo: mean.lo.max(QUARTER),
+        hi: mean.hi.max(QUARTER),
+    }
+}
+
+// A square of units of 2^-48 in units of 2^-112, so that its quotient by units of 2^-64 is in units of 2^-48.
+fn dividend(square: u128) -> u128
+    requires { 2 * square ≤ 33 * 2 ^ 48 }
+    ensures { result ≡ square * 2 ^ 64 }
+{
+    square << 64
+}
+
+// `dividend / divisor`, rounded up. Where it is below about 2^30, the quotient of their high parts is nearly always the one below it,
+// and a division of 128 bits is saved.
+fn small_quotient(dividend: u128, divisor: u128) -> u128
+    requires low { 2 ^ 62 ≤ divisor }
+    requires small { divisor ≤ 17 * 2 ^ 64 }
+    ensures { result ≡ div_ceil dividend divisor }
+{
+    if dividend >> 96 == 0 {
+        let guess = u128::from((dividend >> 32) as u64 / (divisor >> 32) as u64);
+        let below = guess * divisor;
+        if below < dividend && dividend <= below + divisor {
+            return guess + 1;
+        }
+    }
+    dividend.div_ceil(divisor)
+}
+
+/// The quotients of the squares and the divisor, in units of 2^-48, rounded down and up.
+pub fn quotients(squares: Ends, divisor: Ends) -> Ends
+    requires ordered { squares.lo ≤ squares.hi }
+    requires small { 2 * squares.hi ≤ 33 * 2 ^ 48 }
+    requires divisor_low { 2 ^ 62 ≤ divisor.lo }
+    requires divisor_ordered { divisor.lo ≤ divisor.hi }
+    requires divisor_small { divisor.hi ≤ 17 * 2 ^ 64 }
+    ensures value { result ≡ output_of squares divisor }
+    ensures ordered { result.lo ≤ result.hi }
+    ensures small { result.hi ≤ 66 * 2 ^ 48 }
+{
+    let lo = dividend(squares.lo) / divisor.hi;
+    // The upper quotient is not far from the lower one.
+    let more = dividend(squares.hi) - lo * divisor.lo;
+    Ends {
+        lo,
+        hi: lo + small_quotient(more, divisor.lo),
+    }
+}
