@@ -1,0 +1,14 @@
+pub mod ErrorLemmas
+pub mod BoundLemmas
+pub mod StepLemmas
+pub mod SampleLemmas
+pub mod RunLemmas
+pub mod KeptLemmas
+pub mod PromiseLemmas
+pub mod SectionLemmas
+pub mod CheckLemmas
+pub mod FaultLemmas
+pub mod GainLemmas
+pub mod MakeLemmas
+pub mod MakeBounds
+pub mod MakeRows

@@ -1,0 +1,9 @@
+pub mod Row
+pub mod Cause
+pub mod Certificate
+pub mod Judged
+pub mod Section
+pub mod RoundedSection
+pub mod Bound
+pub mod Gain
+pub mod Make
