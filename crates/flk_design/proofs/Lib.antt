@@ -1,0 +1,3 @@
+mod Computed
+mod NearestLemmas
+pub mod DesignLemmas

@@ -1,0 +1,4 @@
+pub mod Nearest
+pub mod Lamp
+pub mod Analog
+pub mod Design

@@ -1,0 +1,17 @@
+//! What the table answers, against numbers of an independent computation.
+
+use crate::design;
+use flk_num::Lamp;
+use std::test::Fail;
+
+#[test]
+fn first_and_last_section(rt: HostRuntime) -> Result<(), Fail> {
+    let sections = design(Lamp::L230);
+    assert_eq!(rt; sections[0].b0, 4_294_686_209);
+    assert_eq!(rt; sections[0].b1, -4_294_686_209);
+    assert_eq!(rt; sections[0].a1, -4_294_405_123);
+    assert_eq!(rt; sections[6].b1, 119_692_743);
+    assert_eq!(rt; sections[6].a1, -4_055_581_809);
+    assert_eq!(rt; design(Lamp::L120)[4].a2, 4_202_274_093);
+    Ok(())
+}
