@@ -21,12 +21,12 @@ use Rattle.flk_num.specs.declared.interval.Interval.{Interval}
 use Rattle.flk_num.specs.Interval.{Holds, HoldEach, IsNarrow}
 use Rattle.flk_num.specs.Square.{least_squares}
 use Rattle.flk_top.specs.Voltage.{recorded_voltage, IsVoltageInterval}
-use Rattle.flk_top.specs.Cutter.{IsHalfPeriodInterval}
+use Rattle.flk_half.specs.Cutter.{IsHalfPeriodInterval}
 use Rattle.flk_top.specs.Levels.{HoldsEveryRun, KeepsWidth, IsExtremeInterval, AreExtremeIntervals, AreExtremeIntervalsIfAny, AreExtremes, AreExtremesIfAny}
 use Rattle.flk_top.specs.declared.measure.Extremes.{Extremes}
 use Rattle.flk_top.proofs.VoltageLemmas.{voltage_holds, voltage_narrow}
-use Rattle.flk_top.proofs.EnclosureLemmas.{IsValueAt-natural, half_period_holds}
-use Rattle.flk_top.proofs.WidthLemmas.{half_period_narrow}
+use Rattle.flk_half.proofs.EnclosureLemmas.{IsValueAt-natural, half_period_holds}
+use Rattle.flk_half.proofs.WidthLemmas.{half_period_narrow}
 
 -- ---- every run
 

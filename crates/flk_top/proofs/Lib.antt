@@ -1,8 +1,5 @@
 pub mod VoltageLemmas
 pub mod ScaleLemmas
-pub mod CutterLemmas
-pub mod EnclosureLemmas
-pub mod WidthLemmas
 pub mod LevelsLemmas
 mod RecordingLemmas
 mod WidenedLemmas
@@ -10,5 +7,6 @@ mod MeasureState
 mod Words
 mod Digits
 mod Headline
+mod TablesLemmas
 mod Replies
 mod OneAnswerLemmas

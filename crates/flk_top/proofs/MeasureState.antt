@@ -9,9 +9,9 @@ use Rattle.flk_exact.proofs.ListLemmas.{AllZip-push, slice_range-append}
 use Rattle.flk_exact.proofs.CutLemmas.{half_periods-append, half_periods-push, AreCuts-below}
 use Rattle.flk_num.specs.declared.interval.Interval.{Interval}
 use Rattle.flk_top.specs.Voltage.{IsVoltageInterval}
-use Rattle.flk_top.specs.Cutter.{IsHalfPeriodInterval, Stands, Continues, EndsHalfPeriod}
+use Rattle.flk_half.specs.Cutter.{IsHalfPeriodInterval, Stands, Continues, EndsHalfPeriod}
 use Rattle.flk_top.specs.Levels.{AreExtremeIntervalsIfAny, Widens, AreLevels}
-use Rattle.flk_top.specs.declared.half.Cutter.{Cutter}
+use Rattle.flk_half.specs.declared.cutter.Cutter.{Cutter}
 use Rattle.flk_top.specs.declared.measure.Extremes.{Extremes}
 use Rattle.flk_top.proofs.LevelsLemmas.{are_extremes_if_any}
 

@@ -27,15 +27,18 @@ use Rattle.flk_cfg.specs.declared.config.Config.{Config}
 use Rattle.flk_cfg.specs.declared.kind.Kind.{Kind}
 use Rattle.flk_cfg.proofs.LineLaws.{one_first_fault}
 use Rattle.flk_cfg.proofs.ConfigLaws.{config_or_fault}
-use Rattle.flk_top.specs.Command.{IsLevels, IsNoCommand, configuration_name}
+use Rattle.flk_num.specs.declared.lamp.Lamp.{Lamp}
+use Rattle.flk_top.specs.Command.{IsLevels, IsTables, IsNoCommand, configuration_name}
 use Rattle.flk_top.specs.Voltage.{recorded_voltage, IsVoltageInterval}
-use Rattle.flk_top.specs.Cutter.{IsValueAt, IsHalfPeriodInterval}
+use Rattle.flk_half.specs.Cutter.{IsValueAt, IsHalfPeriodInterval}
 use Rattle.flk_top.specs.Levels.{IsFirstOver, IsWithinRange, IsExtremeInterval, AreExtremes, AreExtremesIfAny, AreLevels}
 use Rattle.flk_top.specs.Text.{extremes_text, levels_text}
-use Rattle.flk_top.specs.Answer.{usage_line, configuration_line, range_line, IsConfiguration, ArePlainFiles, IsDue, usage, long_configuration, configuration_fault, notyet, range, measured, samples_of}
+use Rattle.flk_top.specs.Answer.{usage_line, configuration_line, range_line, IsConfiguration, ArePlainFiles, IsDue, usage, long_configuration, configuration_fault, notyet, range, measured, tables, samples_of}
 use Rattle.flk_top.specs.declared.measure.Levels.{Levels}
 use Rattle.flk_top.specs.declared.measure.Extremes.{Extremes}
-use Rattle.flk_top.proofs.Headline.{one_number, plain_for, one_count, tells_levels}
+use Rattle.flk_top.proofs.Headline.{levels_or_tables, one_number, plain_for, one_count, tells_levels}
+use Rattle.flk_top.specs.Tables.{IsDueForTables}
+use Rattle.flk_top.proofs.TablesLemmas.{one_lamp, one_table}
 
 -- ---- the ends of intervals
 
@@ -188,11 +191,24 @@ agreed status text number line = (status ∙ sym number, text ∙ sym line)
 -- beside words of no command nothing else is due
 beside_usage : (words : List (List ℕ)) (files : List ℕ → List ℕ) (s t : ℕ) (xs ys : List ℕ) → IsNoCommand words → s ≡ 2 → xs ≡ usage_line → IsDue words files t ys → (s ≡ t) × (xs ≡ ys)
 beside_usage words files s t xs ys none status text (usage never number line) = agreed status text number line
-beside_usage words files s t xs ys none status text (long_configuration c v u asks long number line) = absurd (none c v u asks)
-beside_usage words files s t xs ys none status text (configuration_fault c v u l f k asks small fault number line) = absurd (none c v u asks)
-beside_usage words files s t xs ys none status text (notyet c v u config asks is other number line) = absurd (none c v u asks)
-beside_usage words files s t xs ys none status text (range c v u n i asks plain first number line) = absurd (none c v u asks)
-beside_usage words files s t xs ys none status text (measured c v u n levels asks plain within are number line) = absurd (none c v u asks)
+beside_usage words files s t xs ys none status text (long_configuration c v u asks long number line) = absurd (none.no_levels c v u asks)
+beside_usage words files s t xs ys none status text (configuration_fault c v u l f k asks small fault number line) = absurd (none.no_levels c v u asks)
+beside_usage words files s t xs ys none status text (notyet c v u config asks is other number line) = absurd (none.no_levels c v u asks)
+beside_usage words files s t xs ys none status text (range c v u n i asks plain first number line) = absurd (none.no_levels c v u asks)
+beside_usage words files s t xs ys none status text (measured c v u n levels asks plain within are number line) = absurd (none.no_levels c v u asks)
+beside_usage words files s t xs ys none status text (tables lamp asks due) = absurd (none.no_tables lamp asks)
+
+-- beside the tables of a lamp nothing else is due
+beside_tables : (words : List (List ℕ)) (files : List ℕ → List ℕ) (s t : ℕ) (xs ys : List ℕ) (lamp : Lamp) → IsTables words lamp → IsDueForTables lamp s xs → IsDue words files t ys → (s ≡ t) × (xs ≡ ys)
+beside_tables words files s t xs ys lamp that told (usage none number line) = absurd (none.no_tables lamp that)
+beside_tables words files s t xs ys lamp that told (long_configuration c v u asks long number line) = absurd (levels_or_tables words c v u lamp asks that)
+beside_tables words files s t xs ys lamp that told (configuration_fault c v u l f k asks small fault number line) = absurd (levels_or_tables words c v u lamp asks that)
+beside_tables words files s t xs ys lamp that told (notyet c v u config asks is other number line) = absurd (levels_or_tables words c v u lamp asks that)
+beside_tables words files s t xs ys lamp that told (range c v u n i asks plain first number line) = absurd (levels_or_tables words c v u lamp asks that)
+beside_tables words files s t xs ys lamp that told (measured c v u n levels asks plain within are number line) = absurd (levels_or_tables words c v u lamp asks that)
+beside_tables words files s t xs ys lamp that told (tables other asks due) =
+    let P : Lamp → Type 0 = λ x. IsDueForTables x t ys in
+    one_table lamp s t xs ys told (subst P (one_lamp words other lamp asks that) due)
 
 -- the first fault of a configuration has one text
 fault_same : (bytes : List ℕ) (l f : ℕ) (k : Kind) (m g : ℕ) (h : Kind) → IsFirstFault bytes l f k → IsFirstFault bytes m g h
@@ -212,6 +228,8 @@ one_answer words files s t xs ys due (measured c v u n levels asks plain within 
     flipped (beside_levels words files t s ys xs c v u n levels asks plain within are status text due)
 one_answer words files s t xs ys (usage none status text) due = beside_usage words files s t xs ys none status text due
 one_answer words files s t xs ys due (usage none status text) = flipped (beside_usage words files t s ys xs none status text due)
+one_answer words files s t xs ys (tables lamp asks told) due = beside_tables words files s t xs ys lamp asks told due
+one_answer words files s t xs ys due (tables lamp asks told) = flipped (beside_tables words files t s ys xs lamp asks told due)
 one_answer words files s t xs ys (long_configuration c v u asks long status text) (long_configuration d w z that more number line) = agreed status text number line
 one_answer words files s t xs ys (long_configuration c v u asks long status text) (configuration_fault d w z m g h that small fault number line) = absurd (omega arith)
 one_answer words files s t xs ys (long_configuration c v u asks long status text) (notyet d w z config that is other number line) = absurd (omega (arith, long, is.small))

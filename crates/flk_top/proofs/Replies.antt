@@ -10,16 +10,14 @@ use Rattle.flk_cfg.specs.declared.kind.CfgFault.{CfgFault}
 use Rattle.flk_cfg.proofs.ConfigLaws.{one_config}
 use Rattle.flk_top.specs.Recording.{IsRecording, samples}
 use Rattle.flk_top.specs.Levels.{IsFirstOver}
-use Rattle.flk_top.specs.Command.{IsLevels, configuration_name, data_name}
-use Rattle.flk_top.specs.Answer.{Tells, notyet_line, read_line, configuration_line, range_line, configuration_limit, IsConfiguration, IsReadSoFar, IsDue, long_configuration, configuration_fault, notyet, range, measured}
+use Rattle.flk_num.specs.declared.lamp.Lamp.{Lamp}
+use Rattle.flk_top.specs.Tables.{IsDueForTables}
+use Rattle.flk_top.specs.Command.{IsLevels, IsTables, AsksLevels, configuration_name, data_name}
+use Rattle.flk_top.specs.Answer.{Tells, notyet_line, read_line, configuration_line, range_line, configuration_limit, IsConfiguration, IsReadSoFar, IsDue, long_configuration, configuration_fault, notyet, range, measured, tables}
 use Rattle.flk_top.specs.DataReply.{IsDueForData, other_data, over_range, within_range}
 use Rattle.flk_top.specs.declared.command.LevelsCommand.{LevelsCommand}
 use Rattle.flk_top.specs.declared.reply.Reply.{Reply}
 use Rattle.flk_top.proofs.RecordingLemmas.{length-samples}
-
--- the words ask for these levels
-abbrev pub Asks : List (List ℕ) → LevelsCommand → Type 0
-Asks words command = IsLevels words command.channel command.supply.nominal_mv command.supply.uncertainty_uv
 
 -- what is due for the data, as these levels ask for it
 abbrev pub IsDueForCommand : LevelsCommand → ℕ → List ℕ → ℕ → List ℕ → Type 0
@@ -59,7 +57,7 @@ over_reply command n bytes i (Ok x) h recording first = over_range i recording f
 over_reply command n bytes i (Err e) h recording first = tt
 
 -- a configuration above the limit
-pub too_long : (words : List (List ℕ)) (command : LevelsCommand) (left : List ℕ → Option (List ℕ)) → Asks words command
+pub too_long : (words : List (List ℕ)) (command : LevelsCommand) (left : List ℕ → Option (List ℕ)) → AsksLevels words command
     → IfSome (left (configuration_name words)) (λ bytes. configuration_limit < length bytes)
     → (files : List ℕ → List ℕ) → Tells left files → (s : ℕ) (t : List ℕ) → s ≡ 2 → t ≡ configuration_line 0 0 8 → IsDue words files s t
 too_long words command left asks long files tells s t status text =
@@ -68,7 +66,7 @@ too_long words command left asks long files tells s t status text =
 
 -- The words ask for levels, and these are the bytes under the configuration's name, which were read.
 pub record WasRead (words : List (List ℕ)) (command : LevelsCommand) (left after : List ℕ → Option (List ℕ)) (bytes : List ℕ) : Type 0 where
-  pub asks : Asks words command
+  pub asks : AsksLevels words command
   pub took : Consumes (left (configuration_name words)) (after (configuration_name words)) bytes
   pub end : IsAtEnd (after (configuration_name words))
   pub others : OthersStay (configuration_name words) left after
@@ -125,7 +123,7 @@ never_refused words command left after bytes n read is files tells never =
     never command.channel command.supply.nominal_mv command.supply.uncertainty_uv is.0 read.asks (was_configuration words command left after bytes is.0 read is.1 files tells) is.2
 
 -- what is due for the data is due
-due_for : (words : List (List ℕ)) (files : List ℕ → List ℕ) (command : LevelsCommand) (config : Config) (n : ℕ) → Asks words command → IsConfiguration (files (configuration_name words)) config
+due_for : (words : List (List ℕ)) (files : List ℕ → List ℕ) (command : LevelsCommand) (config : Config) (n : ℕ) → AsksLevels words command → IsConfiguration (files (configuration_name words)) config
     → IsReadSoFar command.channel config → n ≡ config.endsamp → (s : ℕ) (t : List ℕ) → IsDueForCommand command n (files (data_name words)) s t → IsDue words files s t
 due_for words files command config n asks is so_far count s t (other_data none status text) =
     let P : ℕ → Type 0 = λ k. IsRecording k (files (data_name words)) in
@@ -145,7 +143,7 @@ for_data words command left after bytes n read is files tells s t due =
     due_for words files command is.0 n read.asks (was_configuration words command left after bytes is.0 read is.1 files tells) is.2 is.3 s t due
 
 -- the data are as at entry while the configuration alone was read
-unread : (words : List (List ℕ)) (command : LevelsCommand) (left after : List ℕ → Option (List ℕ)) → Asks words command
+unread : (words : List (List ℕ)) (command : LevelsCommand) (left after : List ℕ → Option (List ℕ)) → AsksLevels words command
     → OthersStay (configuration_name words) left after → after (data_name words) ≡ left (data_name words)
 unread words command left after asks others = others (data_name words) (λ same. asks.names (sym same))
 
@@ -190,3 +188,10 @@ front_due words files s t written later before now (inr (inr four)) due read fro
     let failed = read four in
     let P : List ℕ → Type 0 = λ line. AddsFront written later line in
     inr (failed.1, subst P failed.0 front)
+
+-- the tables of a lamp
+pub tables_told : {E : Type 0} (words : List (List ℕ)) (lamp : Lamp) (left : List ℕ → Option (List ℕ)) (r : Result Reply E) → IsTables words lamp
+    → IfOk r (λ x. IsDueForTables lamp x.status (string_bytes x.text))
+    → IfOk r (λ x. x.status ≢ 4 → (files : List ℕ → List ℕ) → Tells left files → IsDue words files x.status (string_bytes x.text))
+tables_told words lamp left (Ok x) asks due = λ fine files tells. tables lamp asks due
+tables_told words lamp left (Err e) asks due = tt

@@ -8,7 +8,6 @@ use Rattle.flk_exact.specs.Run.{IsAdmitted, CoversDoubt}
 use Rattle.flk_exact.proofs.WholeLemmas.{cancel_≤, atom, nat, plus_is, minus_is, times_is, at_most, from_at_most, from_below}
 use Rattle.flk_num.specs.declared.interval.Interval.{Interval}
 use Rattle.flk_num.specs.Interval.{Holds, IsNarrow}
-use Rattle.flk_top.specs.Cutter.{IsSmall}
 use Rattle.flk_top.specs.Voltage.{IsOverRange, IsVoltageInterval, recorded_voltage}
 use borrow.Author.Differences.{up, down}
 
@@ -86,7 +85,7 @@ voltage_narrow nominal e x v delta some i c = record {
 }
 
 -- and its ends are small
-pub voltage_small : (nominal e : ℕ) (x : ℤ) (v : Interval) → 0 < nominal → e ≤ 10 * nominal → ¬ IsOverRange nominal x → IsVoltageInterval nominal e x v → IsSmall v
+pub voltage_small : (nominal e : ℕ) (x : ℤ) (v : Interval) → 0 < nominal → e ≤ 10 * nominal → ¬ IsOverRange nominal x → IsVoltageInterval nominal e x v → (unsigned_abs v.lo ≤ 5 * 2 ^ 48) × (unsigned_abs v.hi ≤ 5 * 2 ^ 48)
 voltage_small nominal e x v some small range i =
     let k = some_uv nominal some in
     let within : 10 * unsigned_abs x ≤ 4 * nominal = omega (arith, range) in
@@ -94,4 +93,4 @@ voltage_small nominal e x v some small range i =
     let b : neg_ℤ (pos (5 * 2 ^ 48)) ≤ℤ v.lo = cancel_≤ _ _ (1000 * nominal) k (omega (arith, ints, i.down.greatest)) in
     let c : v.hi ≤ℤ pos (5 * 2 ^ 48) = cancel_≤ _ _ (1000 * nominal) k (omega (arith, ints, i.up.least)) in
     let d : neg_ℤ (pos (5 * 2 ^ 48)) ≤ℤ v.hi = cancel_≤ _ _ (1000 * nominal) k (omega (arith, ints, i.up.within)) in
-    record { low = omega (arith, ints); high = omega (arith, ints) }
+    (omega (arith, ints), omega (arith, ints))

@@ -7,10 +7,12 @@ use Rattle.flk_cfg.specs.declared.config.Analog.{Analog}
 use Rattle.flk_cfg.specs.declared.config.Config.{Config}
 use Rattle.flk_cfg.specs.declared.config.Form.TheVariants.{Binary}
 use Rattle.flk_cfg.specs.declared.kind.Kind.{Kind}
-use Rattle.flk_top.specs.Command.{IsLevels, IsNoCommand, configuration_name, data_name}
+use Rattle.flk_num.specs.declared.lamp.Lamp.{Lamp}
+use Rattle.flk_top.specs.Command.{IsLevels, IsTables, IsNoCommand, configuration_name, data_name}
 use Rattle.flk_top.specs.Recording.{IsRecording, samples}
 use Rattle.flk_top.specs.Levels.{IsFirstOver, IsWithinRange, AreLevels}
 use Rattle.flk_top.specs.Text.{levels_text}
+use Rattle.flk_top.specs.Tables.{IsDueForTables}
 use Rattle.flk_top.specs.declared.measure.Levels.{Levels}
 
 -- what is told of each name is these bytes
@@ -73,7 +75,7 @@ pub record ArePlainFiles (words : List (List ℕ)) (files : List ℕ → List �
 abbrev pub samples_of : List (List ℕ) → (List ℕ → List ℕ) → ℕ → List ℤ
 samples_of words files n = samples (files (data_name words)) n
 
--- The status and the text that are due. The premises of the six rows exclude each other, so each text comes exactly where its row says.
+-- The status and the text that are due. The premises of the seven rows exclude each other, so each text comes exactly where its row says.
 -- (nominal in millivolts, uncertainty in microvolts; half a nominal period of 50 Hz has 24 samples.)
 pub data IsDue (words : List (List ℕ)) (files : List ℕ → List ℕ) (status : ℕ) (text : List ℕ) : Type 0 where
   usage : IsNoCommand words → status ≡ 2 → text ≡ usage_line → IsDue words files status text
@@ -95,6 +97,7 @@ pub data IsDue (words : List (List ℕ)) (files : List ℕ → List ℕ) (status
       → IsWithinRange nominal (samples_of words files n)
       → AreLevels 24 nominal uncertainty (samples_of words files n) levels
       → status ≡ 0 → text ≡ levels_text channel levels → IsDue words files status text
+  tables : (lamp : Lamp) → IsTables words lamp → IsDueForTables lamp status text → IsDue words files status text
 
 -- The words ask for the levels of files that are accepted: of the form that is read so far, and with no sample over range.
 pub record AreAccepted (words : List (List ℕ)) (files : List ℕ → List ℕ) (channel nominal uncertainty n : ℕ) : Type 0 where

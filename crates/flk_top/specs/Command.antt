@@ -1,6 +1,11 @@
--- The words of the command `levels CFG DAT CHANNEL NOMINAL_MV UNCERTAINTY_UV`.
+-- The words of the commands `levels CFG DAT CHANNEL NOMINAL_MV UNCERTAINTY_UV` and `tables LAMP`.
 use Rattle.std.specs.Prelude.{◌≡◌, ◌≢◌, ℕ, ◌*◌, ◌≤◌, List, [], length, slice_index_or, codes}
 use Rattle.std.specs.Str.Parse.{IsNumeral, digits_value}
+use Rattle.flk_num.specs.declared.lamp.Lamp.{Lamp}
+use Rattle.flk_num.specs.declared.lamp.Lamp.TheVariants.{L230, L120}
+use Rattle.flk_top.specs.declared.command.LevelsCommand.{LevelsCommand}
+use Rattle.flk_top.specs.declared.command.Command.{Command}
+use Rattle.flk_top.specs.declared.command.Command.TheVariants.{Levels, Tables}
 
 -- one to ten decimal digits, and the number that they write
 pub record IsNumber (word : List ℕ) (n : ℕ) : Type 0 where
@@ -33,6 +38,27 @@ pub record IsLevels (words : List (List ℕ)) (channel nominal uncertainty : ℕ
   pub nominal_word : IsNumberIn 1000 1000000 (word words 4) nominal
   pub uncertainty_word : IsNumberIn 0 (10 * nominal) (word words 5) uncertainty
 
+-- the lamp's word
+abbrev pub lamp_word : Lamp → List ℕ
+lamp_word L230 = codes "230/50"
+lamp_word L120 = codes "120/60"
+
+-- the words have the shape of `tables`, with this lamp
+pub record IsTables (words : List (List ℕ)) (lamp : Lamp) : Type 0 where
+  pub count : length words ≡ 2
+  pub command : word words 0 ≡ codes "tables"
+  pub lamp_is : word words 1 ≡ lamp_word lamp
+
 -- the words have no command's shape
-abbrev pub IsNoCommand : List (List ℕ) → Type 0
-IsNoCommand words = (channel nominal uncertainty : ℕ) → ¬ IsLevels words channel nominal uncertainty
+pub record IsNoCommand (words : List (List ℕ)) : Type 0 where
+  pub no_levels : (channel nominal uncertainty : ℕ) → ¬ IsLevels words channel nominal uncertainty
+  pub no_tables : (lamp : Lamp) → ¬ IsTables words lamp
+
+-- the words ask for these levels
+abbrev pub AsksLevels : List (List ℕ) → LevelsCommand → Type 0
+AsksLevels words command = IsLevels words command.channel command.supply.nominal_mv command.supply.uncertainty_uv
+
+-- the words ask for this command
+abbrev pub Asks : List (List ℕ) → Command → Type 0
+Asks words (Levels command) = AsksLevels words command
+Asks words (Tables lamp) = IsTables words lamp

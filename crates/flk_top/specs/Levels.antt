@@ -10,7 +10,7 @@ use Rattle.flk_exact.specs.HalfPeriod.{AreHalfPeriodValues, half_period_width}
 use Rattle.flk_exact.specs.Extreme.{IsLeast, IsGreatest}
 use Rattle.flk_num.specs.declared.interval.Interval.{Interval}
 use Rattle.flk_top.specs.Voltage.{recorded_voltage, IsVoltageInterval, IsOverRange}
-use Rattle.flk_top.specs.Cutter.{IsHalfPeriodInterval}
+use Rattle.flk_half.specs.Cutter.{IsHalfPeriodInterval}
 use Rattle.flk_top.specs.declared.measure.Levels.{Levels}
 use Rattle.flk_top.specs.declared.measure.Extremes.{Extremes}
 

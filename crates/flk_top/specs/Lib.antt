@@ -1,9 +1,9 @@
 pub mod Command
 pub mod Recording
 pub mod Voltage
-pub mod Cutter
 pub mod Levels
 pub mod Text
+pub mod Tables
 pub mod Answer
 pub mod DataReply
 pub mod Headline

@@ -1,10 +1,12 @@
-//! The words of a command.
+//! The words of a command, and what they ask for.
 
 ghost use Rattle.std.specs.Prelude.{ℕ, IfSome, IfNone};
-ghost use Rattle.flk_top.specs.Command.{IsNumber, IsNumberIn, IsLevels, IsNoCommand};
+ghost use Rattle.flk_num.specs.declared.lamp.Lamp.{Lamp as LampView};
+ghost use Rattle.flk_top.specs.Command.{IsNumber, IsNumberIn, IsLevels, IsTables, AsksLevels, Asks, IsNoCommand};
 
 use crate::scale::Supply;
 use flk_io::Words;
+use flk_num::Lamp;
 
 /// What `levels` is asked for, beside the names of its two files.
 #[derive(Clone, Copy, Debug)]
@@ -12,6 +14,14 @@ pub struct LevelsCommand {
     /// The channel, from 1 to 256.
     pub channel: u32,
     pub supply: Supply,
+}
+
+/// What the words ask for.
+#[derive(Clone, Copy, Debug)]
+pub enum Command {
+    Levels(LevelsCommand),
+    /// The tables of a lamp.
+    Tables(Lamp),
 }
 
 /// The name of the configuration, and the name of the data.
@@ -41,10 +51,10 @@ fn number_in(word: &str, low: u32, high: u32) -> Option<u32>
     Some(n)
 }
 
-/// What `levels` is asked for, and None exactly where the words don't have its shape.
-pub fn levels_command(words: &Words) -> Option<LevelsCommand>
-    ensures some { IfSome result (λ c. IsLevels words.now c.channel c.supply.nominal_mv c.supply.uncertainty_uv) }
-    ensures none { IfNone result (IsNoCommand words.now) }
+// What `levels` is asked for, and None exactly where the words don't have its shape.
+fn levels_command(words: &Words) -> Option<LevelsCommand>
+    ensures some { IfSome result (AsksLevels words.now) }
+    ensures none { IfNone result ((channel nominal uncertainty : ℕ) → ¬ IsLevels words.now channel nominal uncertainty) }
 {
     if words.len() != 6
         || words.word(0) != "levels"
@@ -60,4 +70,30 @@ pub fn levels_command(words: &Words) -> Option<LevelsCommand>
         uncertainty_uv,
     };
     Some(LevelsCommand { channel, supply })
+}
+
+// The lamp that `tables` is asked for, and None exactly where the words don't have its shape.
+fn tables_command(words: &Words) -> Option<Lamp>
+    ensures some { IfSome result (IsTables words.now) }
+    ensures none { IfNone result ((lamp : LampView) → ¬ IsTables words.now lamp) }
+{
+    if words.len() != 2 || words.word(0) != "tables" {
+        return None;
+    }
+    match words.word(1) {
+        "230/50" => Some(Lamp::L230),
+        "120/60" => Some(Lamp::L120),
+        _ => None,
+    }
+}
+
+/// What the words ask for, and None exactly where they have no command's shape.
+pub fn command_of(words: &Words) -> Option<Command>
+    ensures some { IfSome result (Asks words.now) }
+    ensures none { IfNone result (IsNoCommand words.now) }
+{
+    match levels_command(words) {
+        Some(command) => Some(Command::Levels(command)),
+        None => Some(Command::Tables(tables_command(words)?)),
+    }
 }

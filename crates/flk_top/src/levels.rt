@@ -4,11 +4,11 @@ ghost use Rattle.std.specs.Prelude.{◌≡◌, ◌≢◌, ◌⊎◌, ℕ, ◌+�
 ghost use Rattle.flk_io.specs.Causes.{Rose, AllStay, OthersStay};
 ghost use Rattle.flk_cfg.specs.File.{IsConfig, IsFileAnswer};
 ghost use Rattle.flk_cfg.specs.declared.config.Config.{Config as ConfigValue};
-ghost use Rattle.flk_top.specs.Command.{IsLevels, IsNoCommand, configuration_name, data_name};
-ghost use Rattle.flk_top.specs.Answer.{Tells, IsDue, IsConfiguration, IsReadSoFar, IsPlainChannel, usage_line, configuration_line, read_line, range_line};
+ghost use Rattle.flk_top.specs.Command.{IsLevels, AsksLevels, configuration_name, data_name};
+ghost use Rattle.flk_top.specs.Answer.{Tells, IsDue, IsConfiguration, IsReadSoFar, IsPlainChannel, configuration_line, read_line, range_line};
 ghost use Rattle.flk_top.specs.DataReply.{IsDueForData};
 
-use crate::command::{CONFIGURATION_WORD, DATA_WORD, LevelsCommand, levels_command};
+use crate::command::{CONFIGURATION_WORD, DATA_WORD, LevelsCommand};
 use crate::measure::{FirstOver, measure};
 use crate::recording::{RECORD_BYTES, is_recording};
 use crate::reply::{Reply, line};
@@ -138,8 +138,14 @@ fn configuration_reply(alloc: Global, fault: CfgFault) -> Result<Reply, AllocErr
     Ok(Reply { status: 2, text })
 }
 
-/// Reads what the words name, and composes the answer.
-pub fn answer<F: Shelf>(alloc: Global, words: &Words, shelf: &mut F) -> Result<Reply, AllocError>
+/// Reads the two files that the words name, and composes the answer.
+pub fn levels_reply<F: Shelf>(
+    alloc: Global,
+    words: &Words,
+    command: LevelsCommand,
+    shelf: &mut F,
+) -> Result<Reply, AllocError>
+    requires { AsksLevels words.now command }
     ensures due { IfOk result (λ r. r.status ≢ 4 → (files : List ℕ → List ℕ) → Tells (F.left shelf.old) files
         → IsDue words.now files r.status (string_bytes r.text)) }
     ensures known { IfOk result (λ r. (r.status ≡ 0) ⊎ ((r.status ≡ 2) ⊎ (r.status ≡ 4))) }
@@ -153,12 +159,7 @@ pub fn answer<F: Shelf>(alloc: Global, words: &Words, shelf: &mut F) -> Result<R
         → ((channel nominal uncertainty : ℕ) (c : ConfigValue) → IsLevels words.now channel nominal uncertainty
         → IsConfiguration (files (configuration_name words.now)) c → ¬ IsReadSoFar channel c)
         → F.left shelf.new (data_name words.now) ≡ F.left shelf.old (data_name words.now) }
-    ensures usage { IsNoCommand words.now → AllStay (F.left shelf.old) (F.left shelf.new) × (F.read_faults shelf.new ≡ F.read_faults shelf.old)
-        × IfOk result (λ r. (r.status ≡ 2) × (string_bytes r.text ≡ usage_line)) }
 {
-    let Some(command) = levels_command(words) else {
-        return line(alloc, 2, "fault usage\n");
-    };
     let configuration = match read_all(
         alloc,
         shelf,

@@ -1,32 +1,35 @@
 //! The program's top call: from the words of the command line to a status and a text.
 //!
-//! The words are those of a command (`command`). `levels` reads its two files (`levels`), takes the samples from the data
-//! (`recording`), turns each into the interval of its voltages (`scale`), cuts them into half-periods (`half`) and keeps the
-//! least and the greatest of their values (`measure`). The answer is composed whole (`text`, `reply`) before `run` writes it.
-//! That there is one answer, and that its promise speaks of some run, are laws (`laws`).
+//! The words are those of a command (`command`), which `answer` calls. `levels` reads its two files (`levels`), takes the samples
+//! from the data (`recording`), turns each into the interval of its voltages (`scale`), and keeps the least and the greatest value of
+//! the half-periods (`measure`) into which `flk_half` cuts them. `tables` reads nothing (`tables`). The answer is composed whole
+//! (`text`, `reply`) before `run` writes it. That there is one answer, and that its promise speaks of some run, are laws (`laws`).
 #![tactic(auto)]
 
 ghost use Rattle.std.specs.Prelude.{◌≡◌, ◌≢◌, ◌⊎◌, ℕ, ◌<◌, List};
 ghost use Rattle.std.specs.Io.KnownBytes.{Appends};
 ghost use Rattle.flk_io.specs.Causes.{Rose, AllStay, AddsFront};
 ghost use Rattle.flk_cfg.specs.declared.config.Config.{Config};
-ghost use Rattle.flk_top.specs.Command.{IsLevels, IsNoCommand, configuration_name, data_name};
+ghost use Rattle.flk_num.specs.declared.lamp.Lamp.{Lamp as LampView};
+ghost use Rattle.flk_top.specs.Command.{IsLevels, IsTables, IsNoCommand, configuration_name, data_name};
 ghost use Rattle.flk_top.specs.Answer.{Tells, IsDue, IsConfiguration, IsReadSoFar, AreAccepted, samples_of, usage_line, read_line};
 ghost use Rattle.flk_top.specs.Headline.{TellsLevels};
+ghost use Rattle.flk_top.specs.Tables.{IsDueForTables};
 
+mod answer;
 mod command;
-mod half;
 mod laws;
 mod levels;
 mod measure;
 mod recording;
 mod reply;
 mod scale;
+mod tables;
 #[cfg(test)]
 mod tests;
 mod text;
 
-use crate::levels::answer;
+use crate::answer::answer;
 use flk_io::{Shelf, Sink, Words, write_all};
 pub use laws::{answer_is_one, promise_is_not_empty};
 pub use measure::{Extremes, Levels};
@@ -42,7 +45,7 @@ pub trait Gate {
 ///
 /// It reads the command's files from `shelf`, composes the whole text, and then writes it to `sink`. The status is 0 where the text
 /// is that of the command, 2 where it is one fault line, 4 where a read failed (the line `fault read`), 5 where a write failed, and
-/// 6 where no memory was found, which writes nothing. `rt` and `gate` are for the phases of a report; `levels` uses neither.
+/// 6 where no memory was found, which writes nothing. `rt` and `gate` are for the phases of a report; no other command uses them.
 pub fn run<R: Threads + Sync, F: Shelf, K: Sink, G: Gate + Sync>(
     rt: &R,
     alloc: Global,
@@ -80,6 +83,13 @@ pub fn run<R: Threads + Sync, F: Shelf, K: Sink, G: Gate + Sync>(
     ensures usage { IsNoCommand words.now → AllStay (F.left shelf.old) (F.left shelf.new) × (F.read_faults shelf.new ≡ F.read_faults shelf.old) }
     ensures usage_text { IsNoCommand words.now → result ≢ 5 → result ≢ 6 → (result ≡ 2) × Appends (K.written sink.old) (K.written sink.new) usage_line }
     ensures usage_front { IsNoCommand words.now → result ≡ 5 → AddsFront (K.written sink.old) (K.written sink.new) usage_line }
+
+    // The tables of a lamp are told whatever the files are, and nothing is read.
+    ensures tables { (lamp : LampView) → IsTables words.now lamp → AllStay (F.left shelf.old) (F.left shelf.new) × (F.read_faults shelf.new ≡ F.read_faults shelf.old) }
+    ensures tables_text { (lamp : LampView) → IsTables words.now lamp → result ≢ 5 → result ≢ 6
+        → (text : List ℕ) × IsDueForTables lamp result text × Appends (K.written sink.old) (K.written sink.new) text }
+    ensures tables_front { (lamp : LampView) → IsTables words.now lamp → result ≡ 5
+        → (status : ℕ) × (text : List ℕ) × IsDueForTables lamp status text × AddsFront (K.written sink.old) (K.written sink.new) text }
 
     // Nothing is read but under the two names of `levels`, the data only after a configuration of the form that is read so far,
     // and nothing is appended.

@@ -5,9 +5,9 @@ ghost use Rattle.std.specs.Int.{int_min, int_max};
 ghost use Rattle.flk_top.specs.Recording.{IsRecording, samples};
 ghost use Rattle.flk_top.specs.Levels.{IsFirstOver, IsWithinRange, AreLevels, Widens};
 
-use crate::half::Cutter;
 use crate::recording::value;
 use crate::scale::{Scale, Supply};
+use flk_half::Cutter;
 use flk_num::Interval;
 
 /// The least and the greatest half-period value of a recording, each as the interval in billionths of nominal that holds it for every

@@ -141,7 +141,6 @@ const STEP_UV: u128 = 10_000;
 const TWO_TO_48: u128 = 281_474_976_710_656;
 
 impl Scale {
-    ghost use Rattle.flk_top.specs.Cutter.{IsSmall};
     ghost use Rattle.flk_top.specs.Voltage.{IsOverRange, IsVoltageInterval, recorded_voltage, nominal_of, uncertainty_of};
 
     /// The scale of a supply.
@@ -167,7 +166,7 @@ impl Scale {
         // It holds every exact voltage that the sample admits, is narrow, and its ends are at most five times nominal.
         ensures holds { IfOk result (λ v. (u : Fraction) → IsAdmitted (1000 * nominal_of self.now) (uncertainty_of self.now) (recorded_voltage x) u → Holds v u) }
         ensures narrow { IfOk result (λ v. (delta : Fraction) → CoversDoubt (1000 * nominal_of self.now) (uncertainty_of self.now) delta → IsNarrow delta v) }
-        ensures small { IfOk result IsSmall }
+        ensures small { IfOk result (λ v. (unsigned_abs v.lo ≤ 5 * 2 ^ 48) × (unsigned_abs v.hi ≤ 5 * 2 ^ 48)) }
     {
         if 10 * i64::from(x).abs() > 4 * i64::from(self.supply.nominal_mv) {
             return Err(OverRange);

@@ -71,6 +71,38 @@ const EXACT: &str =
 const UNCERTAIN: &str =
     "levels channel 1\nhalf-periods 199\nleast 0.999999995 to 1.000000004\ngreatest 0.999999995 to 1.000000004\n";
 
+const TABLES_230: &str = "section 1 4294686209 -4294686209 0 -4294405123 0
+gain 1 8589372418 15280 1
+section 2 8788291 17576582 8788291 -8356192996 4096378865
+gain 2 10805343346 924 178
+section 3 8449932 16899864 8449932 -8034470111 3773302543
+gain 3 4725168167 420 95
+section 4 8266186 16532372 8266186 -7859758383 3597855830
+gain 4 4359395411 396 95
+section 5 89011712 0 -89011712 -8497168044 4204641676
+gain 5 10987079482 8109 439
+section 6 2311656171 -2297900156 0 -4281211281 0
+gain 6 4294967296 625 1
+section 7 119692743 119692743 0 -4055581809 0
+gain 7 4294967279 36 1
+";
+
+const TABLES_120: &str = "section 1 4294686209 -4294686209 0 -4294405123 0
+gain 1 8589372418 15280 1
+section 2 12585615 25171230 12585615 -8302595200 4057970366
+gain 2 10809811738 646 148
+section 3 12011612 24023224 12011612 -7923931060 3677010210
+gain 3 4749044982 297 78
+section 4 11703440 23406880 11703440 -7720633291 3472479753
+gain 4 4357308644 280 78
+section 5 82561846 0 -82561846 -8494842419 4202274093
+gain 5 10011724524 8066 446
+section 6 2041322579 -2025671472 0 -4279316189 0
+gain 6 4294967296 549 1
+section 7 95189809 95189809 0 -4104587678 0
+gain 7 4294967296 46 1
+";
+
 #[test]
 fn each_answer(rt: HostRuntime) -> Result<(), Fail> {
     for (line, status, text) in [
@@ -80,7 +112,9 @@ fn each_answer(rt: HostRuntime) -> Result<(), Fail> {
         ("levels Z Y 1 230000 0", 0, EXACT),
         ("levels X Y 2 230000 0", 2, "fault notyet\n"),
         ("levels X X 1 230000 0", 2, "fault usage\n"),
+        ("tables", 2, "fault usage\n"),
         ("tables 230/60", 2, "fault usage\n"),
+        ("tables 230/50 X", 2, "fault usage\n"),
         ("", 2, "fault usage\n"),
     ] {
         let words = words_of(rt.alloc(), line)?;
@@ -163,6 +197,24 @@ fn failures_are_told(rt: HostRuntime) -> Result<(), Fail> {
         assert_eq!(rt; answered, status);
         assert_eq!(rt; sink.written(), text.as_bytes());
         assert_eq!(rt; (shelf.faults(), sink.faults()), faults);
+    }
+    Ok(())
+}
+
+// Whatever the reads do, the tables of a lamp are told, and none is made.
+#[test]
+fn tables_of_each_lamp(rt: HostRuntime) -> Result<(), Fail> {
+    for (line, text) in [("tables 230/50", TABLES_230), ("tables 120/60", TABLES_120)] {
+        let words = words_of(rt.alloc(), line)?;
+        let mut shelf = filled_shelf(rt.alloc())?;
+        for call in 1..9 {
+            shelf.fail_at(call)?;
+        }
+        let mut sink = MemSink::new(rt.alloc(), 1000, 100)?;
+        let answered = run(&rt, rt.alloc(), &words, &mut shelf, &mut sink, &Open);
+        assert_eq!(rt; answered, 0, "{line}");
+        assert_eq!(rt; sink.written(), text.as_bytes(), "{line}");
+        assert_eq!(rt; (shelf.faults(), sink.faults()), (0, 0));
     }
     Ok(())
 }

@@ -22,3 +22,13 @@ returns-clause-write_text g c = λ five files tells.
     let due = c.in-Ok.ensures.due in
     front_due c.args.words.now files c.in-Ok.reply.status (string_bytes c.in-Ok.reply.text) (g.K.Sink.written c.args.sink.now) (g.K.Sink.written c.write_all.new.sink) _ _
     c.in-Ok.ensures.known (λ other. due other files tells) c.in-Ok.ensures.read front
+
+pub returns-in-Ok-write_all-clause-tables_text : goal.returns-in-Ok-write_all-clause-tables_text
+returns-in-Ok-write_all-clause-tables_text g c = λ lamp asks a b.
+    let appends : Appends (g.K.Sink.written c.args.sink.now) (g.K.Sink.written c.write_all.new.sink) (string_bytes c.in-Ok.reply.text) = search rules in
+    (string_bytes c.in-Ok.reply.text, (c.in-Ok.ensures.tables lamp asks).2, appends)
+
+pub returns-clause-tables_front : goal.returns-clause-tables_front
+returns-clause-tables_front g c = λ lamp asks five.
+    let front : AddsFront (g.K.Sink.written c.args.sink.now) (g.K.Sink.written c.write_all.new.sink) (string_bytes c.in-Ok.reply.text) = search rules in
+    (c.in-Ok.reply.status, string_bytes c.in-Ok.reply.text, (c.in-Ok.ensures.tables lamp asks).2, front)

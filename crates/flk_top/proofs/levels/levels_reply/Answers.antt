@@ -3,24 +3,24 @@ use Rattle.flk_io.specs.Causes.{OthersStay}
 use Rattle.flk_num.specs.declared.stop.Stop.TheVariants.{Fault}
 use Rattle.flk_cfg.specs.File.{IsConfig, IsFileAnswer}
 use Rattle.flk_cfg.specs.declared.config.Config.{Config}
-use Rattle.flk_top.specs.Command.{configuration_name, data_name}
+use Rattle.flk_top.specs.Command.{AsksLevels, configuration_name}
 use Rattle.flk_top.specs.Answer.{notyet_line, configuration_line, configuration_limit, IsReadSoFar}
-use Rattle.flk_top.proofs.Replies.{Asks, IsDueForCommand, said, too_long, WasRead, AreAcceptedBytes, fault_read, other_read, never_refused, data_told}
-use Rattle.flk_top.proofs.levels.answer.Goals as goal
+use Rattle.flk_top.proofs.Replies.{IsDueForCommand, said, too_long, WasRead, AreAcceptedBytes, fault_read, other_read, never_refused, data_told}
+use Rattle.flk_top.proofs.levels.levels_reply.Goals as goal
 
 pub returns-in-Err-TooLong-clause-due : goal.returns-in-Err-TooLong-clause-due
 returns-in-Err-TooLong-clause-due g c =
     let words = c.args.words.now in
-    let command = c.in-Some.command in
+    let command = c.args.command in
     let left = g.F.Shelf.left c.args.shelf.now in
-    let asks : Asks words command = search rules in
+    let asks : AsksLevels words command = search rules in
     let long : IfSome (left (configuration_name words)) (λ bytes. configuration_limit < length bytes) = search rules in
     said 2 (configuration_line 0 0 8) words left c.configuration_reply.result c.configuration_reply.ensures (too_long words command left asks long)
 
 pub returns-in-Ok-None-clause-due : goal.returns-in-Ok-None-clause-due
 returns-in-Ok-None-clause-due g c =
     let words = c.args.words.now in
-    let command = c.in-Some.command in
+    let command = c.args.command in
     let left = g.F.Shelf.left c.args.shelf.now in
     let after = g.F.Shelf.left c.read_all.new.shelf in
     let bytes = c.in-Ok.bytes.items in
@@ -35,7 +35,7 @@ returns-in-Ok-None-clause-due g c =
 pub returns-in-Err-Fault-clause-due : goal.returns-in-Err-Fault-clause-due
 returns-in-Err-Fault-clause-due g c =
     let words = c.args.words.now in
-    let command = c.in-Some.command in
+    let command = c.args.command in
     let left = g.F.Shelf.left c.args.shelf.now in
     let after = g.F.Shelf.left c.read_all.new.shelf in
     let bytes = c.in-Ok.bytes.items in
@@ -52,7 +52,7 @@ returns-in-Err-Fault-clause-due g c =
 pub returns-clause-due : goal.returns-clause-due
 returns-clause-due g c =
     let words = c.args.words.now in
-    let command = c.in-Some.command in
+    let command = c.args.command in
     let left = g.F.Shelf.left c.args.shelf.now in
     let after = g.F.Shelf.left c.read_all.new.shelf in
     let bytes = c.in-Ok.bytes.items in
@@ -70,7 +70,7 @@ returns-clause-due g c =
 pub returns-clause-unread : goal.returns-clause-unread
 returns-clause-unread g c =
     let words = c.args.words.now in
-    let command = c.in-Some.command in
+    let command = c.args.command in
     let left = g.F.Shelf.left c.args.shelf.now in
     let after = g.F.Shelf.left c.read_all.new.shelf in
     let bytes = c.in-Ok.bytes.items in
@@ -82,18 +82,6 @@ returns-clause-unread g c =
     let found : AreAcceptedBytes command.channel c.deref.result.now n = search rules in
     let accepted : AreAcceptedBytes command.channel bytes n = rw c.deref.ensures.value at found in
     λ files tells never. absurd (never_refused words command left after bytes n read accepted files tells never)
-
-pub returns-in-Ok-None-clause-usage : goal.returns-in-Ok-None-clause-usage
-returns-in-Ok-None-clause-usage g c =
-    let command = c.in-Some.command in
-    let asks : Asks c.args.words.now command = search rules in
-    λ none. absurd (none command.channel command.supply.nominal_mv command.supply.uncertainty_uv asks)
-
-pub returns-clause-usage : goal.returns-clause-usage
-returns-clause-usage g c =
-    let command = c.in-Some.command in
-    let asks : Asks c.args.words.now command = search rules in
-    λ none. absurd (none command.channel command.supply.nominal_mv command.supply.uncertainty_uv asks)
 
 pub returns-clause-added : goal.returns-clause-added
 returns-clause-added g c = λ name. c.data_reply.ensures.added name ∙ c.read_all.ensures.nothing_added name
