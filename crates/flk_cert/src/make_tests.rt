@@ -152,9 +152,11 @@ fn section(numbers: [i64; 5]) -> Option<Coefs> {
 fn gain(alloc: Global, k: &Coefs) -> Result<Option<(i128, i128, usize)>, AllocError> {
     let cert = make(alloc, k)?;
     let count = cert.rows.as_slice().len();
-    Ok(check(k, &cert)
-        .ok()
-        .map(|gain| (gain.input(), gain.rounding(), count)))
+    Ok(
+        check(k, &cert)
+            .ok()
+            .map(|gain| (gain.input(), gain.rounding(), count)),
+    )
 }
 
 #[test]
