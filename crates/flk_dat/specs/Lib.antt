@@ -1,0 +1,13 @@
+pub mod Kinds
+pub mod Records
+pub mod Blocks
+pub mod SampleFields
+pub mod AsciiRecords
+pub mod BinaryRecords
+pub mod DataFile
+pub mod Streams
+pub mod Heads
+pub mod States
+pub mod Tails
+pub mod Takings
+pub mod Written

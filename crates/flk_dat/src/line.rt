@@ -1,0 +1,184 @@
+//! ASCII records.
+
+ghost use Rattle.std.specs.Prelude.{◌≡◌, ◌+◌, ◌<◌, ◌≤◌, ◌∷◌, [], ℕ, ℤ, List, pos, false, length, drop, get_or, slice_index_or, OnOk, IfOk, IfErr};
+ghost use Rattle.std.specs.List.{list_all, position_or_len};
+ghost use Rattle.flk_text.specs.Lines.{is_byte, without_cr as without_cr_of};
+ghost use Rattle.flk_text.specs.Fields.{fields as fields_of};
+ghost use Rattle.flk_cfg.specs.Values.{IsBit};
+ghost use Rattle.flk_dat.specs.Records.{Follows, IsPresent};
+ghost use Rattle.flk_dat.specs.SampleFields.{IsNumber, IsStamp, IsSample, IsThere, Analog, Digital};
+ghost use Rattle.flk_dat.specs.AsciiRecords.{IsRow, IsLine, LineFault, IsFirstOut, column, field_total};
+ghost use Rattle.flk_dat.specs.Streams.{ends_line};
+ghost use Rattle.flk_dat.specs.Heads.{headed, head_column};
+ghost use Rattle.flk_cfg.specs.declared.config.Form.TheVariants as forms;
+
+use crate::fields::{analog_value, digital_value, sample_number, time_stamp};
+use crate::head::Head;
+use crate::kind::{Fault, Kind};
+use flk_text::{Fields, field_count};
+
+/// The most bytes of a line without its end.
+pub const LONGEST_LINE: usize = 16_384;
+
+/// The place of the first byte with which a line ends, or the length where there is none. The last record's line ends before a byte 1A
+/// too.
+pub fn line_end(bytes: &[u8], last: bool) -> usize
+    ensures place { result ≡ position_or_len (ends_line last) bytes.now }
+    ensures within { result ≤ length bytes.now }
+{
+    let mut count = 0;
+    for byte in bytes {
+        if *byte == b'\n' || (last && *byte == 0x1a) {
+            return count;
+        }
+        count += 1;
+    }
+    count
+}
+
+/// Whether each byte is a space.
+pub fn are_spaces(bytes: &[u8]) -> bool
+    ensures { result ≡ list_all (is_byte 32) bytes.now }
+{
+    for byte in bytes {
+        if *byte != b' ' {
+            return false;
+        }
+    }
+    true
+}
+
+/// The bytes without one CR at their end.
+fn without_cr(bytes: &[u8]) -> &[u8]
+    ensures { result.now ≡ without_cr_of bytes.now }
+{
+    let count = bytes.len();
+    if count > 0 && bytes[count - 1] == b'\r' {
+        &bytes[..count - 1]
+    } else {
+        bytes
+    }
+}
+
+/// Takes the next field.
+fn next<'a>(fields: &mut Fields<'a>) -> &'a [u8]
+    requires { 0 < length fields.old }
+    ensures { fields.old ≡ result.now ∷ fields.new }
+{
+    fields.next_field().unwrap()
+}
+
+/// Reads the analog values, which begin at the third field.
+fn read_analog(fields: &mut Fields<'_>, selected: &[bool], values: &mut [i32]) -> Result<(), Fault>
+    requires few { length selected.now ≤ 256 }
+    requires same { length values.old ≡ length selected.now }
+    requires there { length selected.now ≤ length fields.old }
+    ensures left { OnOk result (fields.new ≡ drop (length selected.now) fields.old) }
+    ensures samples { OnOk result ((i : ℕ) → i < length selected.now → IsSample (get_or fields.old i []) (slice_index_or values.new i (pos 0))) }
+    ensures present { OnOk result ((i : ℕ) → i < length selected.now → IsThere (slice_index_or selected.now i false) (slice_index_or values.new i (pos 0))) }
+    ensures fault { IfErr result (λ f. (i : ℕ) × (f.field ≡ i + 3) × IsFirstOut (λ j. Analog (slice_index_or selected.now j false)) (length selected.now) fields.old i f.kind) }
+{
+    for i in 0..selected.len() {
+        match analog_value(next(fields), selected[i]) {
+            Ok(value) => values[i] = value,
+            Err(kind) => {
+                return Err(Fault {
+                    field: i as u32 + 3,
+                    kind,
+                });
+            }
+        }
+    }
+    Ok(())
+}
+
+/// Reads the digital values, before which there are so many fields.
+fn read_digital(fields: &mut Fields<'_>, before: u32, values: &mut [bool]) -> Result<(), Fault>
+    requires few { (length values.old ≤ 256) × (before ≤ 1000) }
+    requires there { length values.old ≤ length fields.old }
+    ensures bits { OnOk result ((i : ℕ) → i < length values.old → IsBit (get_or fields.old i []) (slice_index_or values.new i false)) }
+    ensures fault { IfErr result (λ f. (i : ℕ) × (f.field ≡ before + i + 1) × IsFirstOut (λ j. Digital) (length values.old) fields.old i f.kind) }
+{
+    for i in 0..values.len() {
+        match digital_value(next(fields)) {
+            Ok(value) => values[i] = value,
+            Err(kind) => {
+                return Err(Fault {
+                    field: before + i as u32 + 1,
+                    kind,
+                });
+            }
+        }
+    }
+    Ok(())
+}
+
+/// Reads the sample number, which is the first field, and the time stamp.
+fn read_head(fields: &mut Fields<'_>, before: Option<u32>) -> Result<Head, Fault>
+    requires there { 2 ≤ length fields.old }
+    ensures left { OnOk result (fields.new ≡ drop 2 fields.old) }
+    ensures head { IfOk result (λ h. IsNumber (get_or fields.old 0 []) h.number × Follows before h.number × IsStamp (get_or fields.old 1 []) h.stamp) }
+    ensures fault { IfErr result (λ f. (i : ℕ) × (f.field ≡ i + 1) × IsFirstOut (head_column before) 2 fields.old i f.kind) }
+{
+    let number = match sample_number(next(fields), before) {
+        Ok(number) => number,
+        Err(kind) => return Err(Fault { field: 1, kind }),
+    };
+    match time_stamp(next(fields)) {
+        Ok(stamp) => Ok(Head { number, stamp }),
+        Err(kind) => Err(Fault { field: 2, kind }),
+    }
+}
+
+/// Reads the fields of a line, of which there are as many as a record has.
+fn read_fields(
+    line: &[u8],
+    selected: &[bool],
+    before: Option<u32>,
+    analog: &mut [i32],
+    digital: &mut [bool],
+) -> Result<Head, Fault>
+    requires few { (length selected.now ≤ 256) × (length digital.old ≤ 256) }
+    requires same { length analog.old ≡ length selected.now }
+    requires count { length (fields_of line.now) ≡ field_total (length selected.now) (length digital.old) }
+    ensures row { IfOk result (λ h. IsRow (length selected.now) (length digital.old) (fields_of line.now) (headed h analog.new digital.new) × Follows before h.number
+        × IsPresent forms.Ascii selected.now (headed h analog.new digital.new)) }
+    ensures fault { IfErr result (λ f. (i : ℕ) × (f.field ≡ i + 1)
+        × IsFirstOut (column selected.now before) (field_total (length selected.now) (length digital.old)) (fields_of line.now) i f.kind) }
+{
+    let mut fields = Fields::new(line);
+    let head = read_head(&mut fields, before)?;
+    read_analog(&mut fields, selected, analog)?;
+    read_digital(&mut fields, selected.len() as u32 + 2, digital)?;
+    Ok(head)
+}
+
+/// Reads a line, which may have a CR at its end: the record's front, and its values into `analog` and `digital`.
+pub fn read_line(
+    bytes: &[u8],
+    selected: &[bool],
+    before: Option<u32>,
+    analog: &mut [i32],
+    digital: &mut [bool],
+) -> Result<Head, Fault>
+    requires few { (length selected.now ≤ 256) × (length digital.old ≤ 256) }
+    requires same { length analog.old ≡ length selected.now }
+    ensures line { IfOk result (λ h. IsLine (length selected.now) (length digital.old) (without_cr_of bytes.now) (headed h analog.new digital.new) × Follows before h.number
+        × IsPresent forms.Ascii selected.now (headed h analog.new digital.new)) }
+    ensures fault { IfErr result (λ f. LineFault selected.now (length digital.old) before (without_cr_of bytes.now) f.field f.kind) }
+{
+    let line = without_cr(bytes);
+    if line.len() > LONGEST_LINE {
+        return Err(Fault {
+            field: 0,
+            kind: Kind::Length,
+        });
+    }
+    if field_count(line) != 2 + selected.len() + digital.len() {
+        return Err(Fault {
+            field: 0,
+            kind: Kind::Fields,
+        });
+    }
+    read_fields(line, selected, before, analog, digital)
+}
