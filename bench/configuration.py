@@ -9,11 +9,10 @@ whole length. Both programs read each of them RUNS times (40) in turn and must p
 less that on the plainest configuration, for half and for all of the length, and the ratio of the latter. It builds the plain program
 by cargo, and needs the built program (`./flicker` builds it)."""
 import os
-import subprocess
 import sys
 import tempfile
 
-import levels
+import programs
 
 MOST = 1_048_576
 CHANNELS = 256
@@ -24,7 +23,7 @@ def with_channels(pad):
     """A configuration of all channels with texts of 64 bytes, each decimal changed by `pad`."""
     text = 64 * "t"
     decimals = ",".join(pad(d) for d in ("0.01", "0", "0", "32767", "32767", "1", "1"))
-    analog = ["%d,%s,A,%s,V,%s,P" % (k + 1, text, text, decimals) for k in range(CHANNELS)]
+    analog = ["%d,%s,A,%s,t,%s,P" % (k + 1, text, text, decimals) for k in range(CHANNELS)]
     digital = ["%d,%s,,%s,1" % (k + 1, text, text) for k in range(CHANNELS)]
     head = ["LAB,DAQ,1999", "%d,%dA,%dD" % (2 * CHANNELS, CHANNELS, CHANNELS)]
     return "\r\n".join(head + analog + digital) + "\r\n" + REST
@@ -38,7 +37,7 @@ def filled(length, fill):
 
 def with_number(length):
     """A configuration of one channel whose multiplier is a decimal over nearly the whole length."""
-    head, tail = "LAB,DAQ,1999\r\n1,1A,0D\r\n1,U,A,,V,", "1,0,0,-32767,32767,1,1,P\r\n" + REST
+    head, tail = "LAB,DAQ,1999\r\n1,1A,0D\r\n1,U,A,,t,", "1,0,0,-32767,32767,1,1,P\r\n" + REST
     return head + (length - len(head) - len(tail)) * "0" + tail
 
 
@@ -56,10 +55,10 @@ def least_times(folder, programs, runs):
     for _ in range(runs):
         outs = []
         for k, words in enumerate(programs):
-            seconds, _, out = levels.run(words, folder, status=2)
+            seconds, _, out = programs.run(words, folder, status=2)
             least[k] = min(least[k], seconds)
             outs.append(out)
-        if outs != [b"fault notyet\n"] * len(programs):
+        if outs != [b"fault match 2 1 0\n"] * len(programs):
             sys.exit("the programs print %s" % outs)
     return least
 
@@ -68,8 +67,8 @@ def main():
     runs = int(sys.argv[1]) if len(sys.argv) > 1 else 40
     with tempfile.TemporaryDirectory() as folder:
         programs = [
-            [levels.built(), "levels", "rec.cfg", "rec.dat", "1", "230000", "1"],
-            [levels.plain(folder, "configuration"), "rec.cfg"],
+            [programs.built(), "levels", "rec.cfg", "rec.dat", "1", "230000", "1"],
+            [programs.plain(folder, "configuration"), "rec.cfg"],
         ]
 
         def timed(text):
@@ -77,7 +76,7 @@ def main():
                 f.write(text)
             return least_times(folder, programs, runs)
 
-        start = timed("LAB,DAQ,1999\r\n1,1A,0D\r\n1,U,A,,V,1,0,0,-32767,32767,1,1,P\r\n" + REST)
+        start = timed("LAB,DAQ,1999\r\n1,1A,0D\r\n1,U,A,,t,1,0,0,-32767,32767,1,1,P\r\n" + REST)
         print("%d bytes, best of %d runs, milliseconds above a short configuration" % (MOST, runs))
         print("%-8s %18s %18s %6s" % ("", "flicker half, all", "plain half, all", "ratio"))
         for name, shape in SHAPES.items():

@@ -6,15 +6,11 @@
 Builds a small program over the crate in a temporary folder by `rt run`, which proves it. Both programs push SAMPLES pseudo-random
 voltages (10,000,000 where nothing is said) with a mean square of about 1, as intervals of about 5e-11 of nominal, and print a checksum
 of all points. Runs both RUNS times (5) in turn, compares what they print, and prints for each the least time, and the ratio."""
-import os
-import shutil
-import subprocess
 import sys
 import tempfile
 
-import levels
+import programs
 
-CRATES = {"flk_exact": "", "flk_num": "flk_exact", "flk_front": "flk_exact flk_num", "bench_front": "flk_num flk_front"}
 PROGRAM = """//! Pushes pseudo-random voltages into a front, and prints a checksum of all points.
 #![tactic(auto)]
 
@@ -44,30 +40,18 @@ fn main(rt: HostRuntime) -> io::Result<()> {
 
 def built(folder, samples):
     """The path of the program over the crate, proved and built in a folder."""
-    crates = os.path.join(folder, "crates")
-    for name in list(CRATES)[:-1]:
-        shutil.copytree(os.path.join(levels.TOP, "crates", name), os.path.join(crates, name), ignore=shutil.ignore_patterns("out", "must-fail"))
-    own = os.path.join(crates, "bench_front")
-    os.makedirs(os.path.join(own, "src"))
-    with open(os.path.join(own, "src", "main.rt"), "w") as f:
-        f.write(PROGRAM % samples)
-    with open(os.path.join(folder, "crates.txt"), "w") as f:
-        f.write("".join("%s: %s\n" % line for line in CRATES.items()))
-    ran = subprocess.run(["rt", "run"], cwd=own, stdout=subprocess.PIPE, stderr=subprocess.STDOUT, text=True)
-    if ran.returncode != 0:
-        sys.exit(ran.stdout)
-    return os.path.join(own, "out", "bench_front")
+    return programs.over_crates(folder, "bench_front", ["flk_num", "flk_front"], {"src/main.rt": PROGRAM % samples})
 
 
 def main():
     samples = int(sys.argv[1]) if len(sys.argv) > 1 else 10_000_000
     runs = int(sys.argv[2]) if len(sys.argv) > 2 else 5
     with tempfile.TemporaryDirectory() as folder:
-        both = {"flk_front": [built(folder, samples)], "plain Rust": [levels.plain(folder, "front"), str(samples)]}
+        both = {"flk_front": [built(folder, samples)], "plain Rust": [programs.plain(folder, "front"), str(samples)]}
         best, texts = {}, set()
         for _ in range(runs):
             for name, words in both.items():
-                seconds, _, out = levels.run(words)
+                seconds, _, out = programs.run(words)
                 best[name] = min(best.get(name, seconds), seconds)
                 texts.add(out)
         if len(texts) != 1:

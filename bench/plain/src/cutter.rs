@@ -1,0 +1,59 @@
+//! Half-periods and their values, in billionths of nominal.
+
+const FIVE_TO_18: u128 = 3_814_697_265_625;
+
+/// The half-periods of so many samples in half a nominal period, so far.
+pub struct Cutter {
+    half: usize,
+    since: usize,
+    negative: bool,
+    least: u128,
+    greatest: u128,
+    pub count: u64,
+    /// The least value's interval, and the greatest one's.
+    pub extremes: Option<[u64; 4]>,
+}
+
+fn squares(lo: i64, hi: i64) -> (u128, u128) {
+    let first = u128::from(lo.unsigned_abs()) * u128::from(lo.unsigned_abs());
+    let last = u128::from(hi.unsigned_abs()) * u128::from(hi.unsigned_abs());
+    if lo > 0 {
+        (first, last)
+    } else if hi < 0 {
+        (last, first)
+    } else {
+        (0, first.max(last))
+    }
+}
+
+impl Cutter {
+    pub fn new(half: usize) -> Cutter {
+        Cutter { half, since: 0, negative: false, least: 0, greatest: 0, count: 0, extremes: None }
+    }
+
+    fn value(&self, sum: u128) -> u64 {
+        let high = (sum >> 64) * FIVE_TO_18;
+        let low = (sum & u128::from(u64::MAX)) * FIVE_TO_18;
+        let quotient = ((high + (low >> 64)) >> 14) / self.half as u128;
+        match u64::try_from(quotient) {
+            Ok(small) => small.isqrt(),
+            Err(_) => quotient.isqrt() as u64,
+        }
+    }
+
+    /// Takes the next sample: whether its voltage is negative, and the voltage's interval in units of 2^-48 of nominal.
+    pub fn push(&mut self, negative: bool, lo: i64, hi: i64) {
+        let square = squares(lo, hi);
+        if self.since == 2 * self.half || (self.half <= 2 * self.since && negative != self.negative) {
+            let (a, b) = (self.value(self.least), self.value(self.greatest));
+            let e = self.extremes.unwrap_or([a, b, a, b]);
+            self.extremes = Some([e[0].min(a), e[1].min(b), e[2].max(a), e[3].max(b)]);
+            self.count += 1;
+            (self.since, self.least, self.greatest) = (0, 0, 0);
+        }
+        self.since += 1;
+        self.negative = negative;
+        self.least += square.0;
+        self.greatest += square.1;
+    }
+}

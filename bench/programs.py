@@ -1,0 +1,69 @@
+"""What the scripts here have in common: the programs that are timed, and one run of a program."""
+import os
+import shutil
+import subprocess
+import sys
+import time
+
+TOP = os.path.dirname(os.path.dirname(os.path.abspath(__file__)))
+PLAIN = os.path.join(TOP, "bench", "plain")
+
+
+def run(words, folder=None, status=0):
+    """The seconds, the peak of memory in MB and the output of one run in a folder, which must end with a status."""
+    start = time.perf_counter()
+    child = subprocess.Popen(words, cwd=folder, stdout=subprocess.PIPE)
+    out = child.stdout.read()
+    _, ended, usage = os.wait4(child.pid, 0)
+    seconds = time.perf_counter() - start
+    if os.waitstatus_to_exitcode(ended) != status:
+        sys.exit("%s ended with %d: %s" % (words[0], ended, out))
+    return seconds, usage.ru_maxrss / 1000, out
+
+
+def built():
+    """The path of the built program."""
+    program = os.path.join(TOP, "crates", "flicker", "out", "flicker")
+    if not os.path.exists(program):
+        sys.exit("build the program first: ./flicker")
+    return program
+
+
+def plain(folder, name):
+    """The path of a plain Rust program, built under a folder."""
+    target = os.path.join(folder, "target")
+    subprocess.run(["cargo", "build", "--release", "--quiet", "--offline", "--target-dir", target], cwd=PLAIN, check=True)
+    return os.path.join(target, "release", name)
+
+
+def below(names):
+    """The crates of the repository that these are or use, each with what it uses, as crates.txt has them."""
+    with open(os.path.join(TOP, "crates.txt")) as f:
+        lines = dict(line.strip().split(":", 1) for line in f if line.strip() and not line.startswith("#"))
+    wanted = set(names)
+    while True:
+        more = wanted.union(*(lines[name].split() for name in wanted if name in lines))
+        if more == wanted:
+            return {name: uses for name, uses in lines.items() if name in wanted}
+        wanted = more
+
+
+def over_crates(folder, name, uses, files):
+    """The path of a program with these files (from the path in its crate to the text), proved and built under a folder by `rt run`."""
+    crates = os.path.join(folder, "crates")
+    libraries = below(uses)
+    for library in libraries:
+        source = os.path.join(TOP, "crates", library)
+        shutil.copytree(source, os.path.join(crates, library), ignore=shutil.ignore_patterns("out", "must-fail"))
+    for path, text in files.items():
+        place = os.path.join(crates, name, path)
+        os.makedirs(os.path.dirname(place), exist_ok=True)
+        with open(place, "w") as f:
+            f.write(text)
+    with open(os.path.join(folder, "crates.txt"), "w") as f:
+        f.write("".join("%s:%s\n" % line for line in libraries.items()) + "%s: %s\n" % (name, " ".join(uses)))
+    ran = subprocess.run(["rt", "run"], cwd=os.path.join(crates, name), stdout=subprocess.PIPE, stderr=subprocess.STDOUT, text=True)
+    program = os.path.join(crates, name, "out", name)
+    if not os.path.exists(program):
+        sys.exit(ran.stdout)
+    return program
