@@ -1,7 +1,6 @@
--- From the intervals of samples to the extremes of every run.
+-- From the intervals of recorded voltages to the extremes of every run.
 use Rattle.std.proofs.Common.{ℕ, ◌-◌, ◌*◌, ◌^◌, ◌<◌, ◌≤◌, Bool, List, [], ◌∷◌, length, map, drop, get_or, ℤ, pos, ◌+ℤ◌, ◌-ℤ◌, ◌*ℤ◌, ◌≤ℤ◌, Option, Some, None, arith, length-take}
 use Rattle.std.specs.Prelude.{negsuc, slice_range}
-use Rattle.std.specs.Int.{is_negative}
 use Rattle.std.specs.List.{All, AllZip, Contains}
 use Rattle.std.proofs.lemmas.Int.{ints}
 use Rattle.std.proofs.lemmas.List.{get_or-map, length-map}
@@ -14,28 +13,27 @@ use Rattle.flk_exact.specs.HalfPeriod.{IsHalfPeriodValue, AreHalfPeriodValues, h
 use Rattle.flk_exact.specs.Extreme.{IsLeast, IsGreatest}
 use Rattle.flk_exact.proofs.WholeLemmas.{atom, nat, plus_is, times_is, from_at_most, scale_≤}
 use Rattle.flk_exact.proofs.FractionLemmas.{≤ℚ-trans}
-use Rattle.flk_exact.proofs.ListLemmas.{AllZip-length, AllZip-joined, AllZip-from_map}
+use Rattle.flk_exact.proofs.ListLemmas.{AllZip-length, AllZip-joined}
 use Rattle.flk_exact.proofs.CutLemmas.{AllZip-half_periods, length-half_periods, few_samples}
 use Rattle.flk_exact.proofs.ExtremeLemmas.{least_≤, greatest_≤}
 use Rattle.flk_num.specs.declared.interval.Interval.{Interval}
 use Rattle.flk_num.specs.Interval.{Holds, HoldEach, IsNarrow}
 use Rattle.flk_num.specs.Square.{least_squares}
-use Rattle.flk_top.specs.Voltage.{recorded_voltage, IsVoltageInterval}
+use Rattle.flk_scale.specs.Voltage.{IsVoltageInterval, is_below_zero}
 use Rattle.flk_half.specs.Cutter.{IsHalfPeriodInterval}
 use Rattle.flk_top.specs.Levels.{HoldsEveryRun, KeepsWidth, IsExtremeInterval, AreExtremeIntervals, AreExtremeIntervalsIfAny, AreExtremes, AreExtremesIfAny}
 use Rattle.flk_top.specs.declared.measure.Extremes.{Extremes}
-use Rattle.flk_top.proofs.VoltageLemmas.{voltage_holds, voltage_narrow}
+use Rattle.flk_scale.proofs.VoltageLemmas.{voltage_holds, voltage_narrow}
 use Rattle.flk_half.proofs.EnclosureLemmas.{IsValueAt-natural, half_period_holds}
 use Rattle.flk_half.proofs.WidthLemmas.{half_period_narrow}
 
 -- ---- every run
 
-run_held : (nominal uncertainty : ℕ) (samples : List ℤ) (voltages : List Interval) (run : List Fraction) → 0 < nominal → AllZip (IsVoltageInterval nominal uncertainty) samples voltages
-    → IsAdmittedRun (1000 * nominal) uncertainty (map recorded_voltage samples) run → HoldEach voltages run
-run_held nominal uncertainty samples voltages run some are admitted =
-    AllZip-joined (IsVoltageInterval nominal uncertainty) (λ x u. IsAdmitted (1000 * nominal) uncertainty (recorded_voltage x) u) Holds
-    (λ x v u is near. voltage_holds nominal uncertainty x v u some is near) samples voltages run are
-    (AllZip-from_map (IsAdmitted (1000 * nominal) uncertainty) recorded_voltage samples run admitted)
+run_held : (nominal uncertainty : ℕ) (recorded : List Fraction) (voltages : List Interval) (run : List Fraction) → 0 < nominal → AllZip (IsVoltageInterval nominal uncertainty) recorded voltages
+    → IsAdmittedRun (1000 * nominal) uncertainty recorded run → HoldEach voltages run
+run_held nominal uncertainty recorded voltages run some are admitted =
+    AllZip-joined (IsVoltageInterval nominal uncertainty) (IsAdmitted (1000 * nominal) uncertainty) Holds
+    (λ r v u is near. voltage_holds nominal uncertainty r v u some is near) recorded voltages run are admitted
 
 -- w lies in h
 abbrev pub LiesIn : Interval → ℤ → Type 0
@@ -62,19 +60,19 @@ highs_≤ [] (w ∷ ws) h = absurd h
 highs_≤ (v ∷ vs) [] h = absurd h
 highs_≤ (v ∷ vs) (w ∷ ws) h = (h.0.below, highs_≤ vs ws h.1)
 
-pub least_holds : (half nominal uncertainty : ℕ) (samples : List ℤ) (voltages : List Interval) (cuts : List ℕ) (intervals : List Interval) (v : Interval) → 0 < nominal → AllZip (IsVoltageInterval nominal uncertainty) samples voltages
-    → AllZip (IsHalfPeriodInterval half) (half_periods cuts voltages) intervals → IsExtremeInterval IsLeast intervals v → HoldsEveryRun IsLeast half nominal uncertainty samples cuts v
-least_holds half nominal uncertainty samples voltages cuts intervals v some are_voltages are_intervals is run values m admitted those least =
-    let held = values_held half cuts voltages run intervals values (run_held nominal uncertainty samples voltages run some are_voltages admitted) are_intervals those in
+pub least_holds : (half nominal uncertainty : ℕ) (recorded : List Fraction) (voltages : List Interval) (cuts : List ℕ) (intervals : List Interval) (v : Interval) → 0 < nominal → AllZip (IsVoltageInterval nominal uncertainty) recorded voltages
+    → AllZip (IsHalfPeriodInterval half) (half_periods cuts voltages) intervals → IsExtremeInterval IsLeast intervals v → HoldsEveryRun IsLeast half nominal uncertainty recorded cuts v
+least_holds half nominal uncertainty recorded voltages cuts intervals v some are_voltages are_intervals is run values m admitted those least =
+    let held = values_held half cuts voltages run intervals values (run_held nominal uncertainty recorded voltages run some are_voltages admitted) are_intervals those in
     record {
       above = least_≤ (map (λ h. h.lo) intervals) values v.lo m (lows_≤ intervals values held) is.low least;
       below = least_≤ values (map (λ h. h.hi) intervals) m v.hi (highs_≤ intervals values held) least is.high;
     }
 
-pub greatest_holds : (half nominal uncertainty : ℕ) (samples : List ℤ) (voltages : List Interval) (cuts : List ℕ) (intervals : List Interval) (v : Interval) → 0 < nominal → AllZip (IsVoltageInterval nominal uncertainty) samples voltages
-    → AllZip (IsHalfPeriodInterval half) (half_periods cuts voltages) intervals → IsExtremeInterval IsGreatest intervals v → HoldsEveryRun IsGreatest half nominal uncertainty samples cuts v
-greatest_holds half nominal uncertainty samples voltages cuts intervals v some are_voltages are_intervals is run values m admitted those greatest =
-    let held = values_held half cuts voltages run intervals values (run_held nominal uncertainty samples voltages run some are_voltages admitted) are_intervals those in
+pub greatest_holds : (half nominal uncertainty : ℕ) (recorded : List Fraction) (voltages : List Interval) (cuts : List ℕ) (intervals : List Interval) (v : Interval) → 0 < nominal → AllZip (IsVoltageInterval nominal uncertainty) recorded voltages
+    → AllZip (IsHalfPeriodInterval half) (half_periods cuts voltages) intervals → IsExtremeInterval IsGreatest intervals v → HoldsEveryRun IsGreatest half nominal uncertainty recorded cuts v
+greatest_holds half nominal uncertainty recorded voltages cuts intervals v some are_voltages are_intervals is run values m admitted those greatest =
+    let held = values_held half cuts voltages run intervals values (run_held nominal uncertainty recorded voltages run some are_voltages admitted) are_intervals those in
     record {
       above = greatest_≤ (map (λ h. h.lo) intervals) values v.lo m (lows_≤ intervals values held) is.low greatest;
       below = greatest_≤ values (map (λ h. h.hi) intervals) m v.hi (highs_≤ intervals values held) greatest is.high;
@@ -82,7 +80,7 @@ greatest_holds half nominal uncertainty samples voltages cuts intervals v some a
 
 -- ---- widths
 
-voltages_narrow : (nominal uncertainty : ℕ) (samples : List ℤ) (voltages : List Interval) (delta : Fraction) → 0 < nominal → AllZip (IsVoltageInterval nominal uncertainty) samples voltages → CoversDoubt (1000 * nominal) uncertainty delta → All (IsNarrow delta) voltages
+voltages_narrow : (nominal uncertainty : ℕ) (recorded : List Fraction) (voltages : List Interval) (delta : Fraction) → 0 < nominal → AllZip (IsVoltageInterval nominal uncertainty) recorded voltages → CoversDoubt (1000 * nominal) uncertainty delta → All (IsNarrow delta) voltages
 voltages_narrow nominal uncertainty [] [] delta some are covers = All-nil (IsNarrow delta)
 voltages_narrow nominal uncertainty [] (v ∷ vs) delta some are covers = absurd are
 voltages_narrow nominal uncertainty (x ∷ xs) [] delta some are covers = absurd are
@@ -138,22 +136,22 @@ greatest_narrow delta intervals v narrow is =
     let hi = get_or-map (λ h. h.hi) intervals k v v.hi less in
     narrower (v.hi -ℤ v.lo) (h.hi -ℤ h.lo) (half_period_width delta) (omega (arith, ints, lo, hi, is.high.among.2, is.low.at_least k v.lo there)) (narrow k v less)
 
-all_narrow : (half nominal uncertainty : ℕ) (negative : List Bool) (samples : List ℤ) (voltages : List Interval) (cuts : List ℕ) (intervals : List Interval) (delta : Fraction) → 0 < half → 0 < nominal → AreCuts half negative cuts
-    → AllZip (IsVoltageInterval nominal uncertainty) samples voltages → AllZip (IsHalfPeriodInterval half) (half_periods cuts voltages) intervals → CoversDoubt (1000 * nominal) uncertainty delta → All (IsNarrowValue delta) intervals
-all_narrow half nominal uncertainty negative samples voltages cuts intervals delta some high are_cuts are_voltages are_intervals covers =
+all_narrow : (half nominal uncertainty : ℕ) (negative : List Bool) (recorded : List Fraction) (voltages : List Interval) (cuts : List ℕ) (intervals : List Interval) (delta : Fraction) → 0 < half → 0 < nominal → AreCuts half negative cuts
+    → AllZip (IsVoltageInterval nominal uncertainty) recorded voltages → AllZip (IsHalfPeriodInterval half) (half_periods cuts voltages) intervals → CoversDoubt (1000 * nominal) uncertainty delta → All (IsNarrowValue delta) intervals
+all_narrow half nominal uncertainty negative recorded voltages cuts intervals delta some high are_cuts are_voltages are_intervals covers =
     let thousand : 0 < 1000 * nominal = omega arith in
     narrow_values half negative 0 delta voltages cuts intervals some (delta_natural (1000 * nominal) uncertainty delta thousand covers)
-    (voltages_narrow nominal uncertainty samples voltages delta high are_voltages covers) are_cuts are_intervals
+    (voltages_narrow nominal uncertainty recorded voltages delta high are_voltages covers) are_cuts are_intervals
 
-pub least_keeps_width : (half nominal uncertainty : ℕ) (negative : List Bool) (samples : List ℤ) (voltages : List Interval) (cuts : List ℕ) (intervals : List Interval) (v : Interval) → 0 < half → 0 < nominal → AreCuts half negative cuts
-    → AllZip (IsVoltageInterval nominal uncertainty) samples voltages → AllZip (IsHalfPeriodInterval half) (half_periods cuts voltages) intervals → IsExtremeInterval IsLeast intervals v → KeepsWidth nominal uncertainty v
-least_keeps_width half nominal uncertainty negative samples voltages cuts intervals v some high are_cuts are_voltages are_intervals is delta covers =
-    least_narrow delta intervals v (all_narrow half nominal uncertainty negative samples voltages cuts intervals delta some high are_cuts are_voltages are_intervals covers) is
+pub least_keeps_width : (half nominal uncertainty : ℕ) (negative : List Bool) (recorded : List Fraction) (voltages : List Interval) (cuts : List ℕ) (intervals : List Interval) (v : Interval) → 0 < half → 0 < nominal → AreCuts half negative cuts
+    → AllZip (IsVoltageInterval nominal uncertainty) recorded voltages → AllZip (IsHalfPeriodInterval half) (half_periods cuts voltages) intervals → IsExtremeInterval IsLeast intervals v → KeepsWidth nominal uncertainty v
+least_keeps_width half nominal uncertainty negative recorded voltages cuts intervals v some high are_cuts are_voltages are_intervals is delta covers =
+    least_narrow delta intervals v (all_narrow half nominal uncertainty negative recorded voltages cuts intervals delta some high are_cuts are_voltages are_intervals covers) is
 
-pub greatest_keeps_width : (half nominal uncertainty : ℕ) (negative : List Bool) (samples : List ℤ) (voltages : List Interval) (cuts : List ℕ) (intervals : List Interval) (v : Interval) → 0 < half → 0 < nominal → AreCuts half negative cuts
-    → AllZip (IsVoltageInterval nominal uncertainty) samples voltages → AllZip (IsHalfPeriodInterval half) (half_periods cuts voltages) intervals → IsExtremeInterval IsGreatest intervals v → KeepsWidth nominal uncertainty v
-greatest_keeps_width half nominal uncertainty negative samples voltages cuts intervals v some high are_cuts are_voltages are_intervals is delta covers =
-    greatest_narrow delta intervals v (all_narrow half nominal uncertainty negative samples voltages cuts intervals delta some high are_cuts are_voltages are_intervals covers) is
+pub greatest_keeps_width : (half nominal uncertainty : ℕ) (negative : List Bool) (recorded : List Fraction) (voltages : List Interval) (cuts : List ℕ) (intervals : List Interval) (v : Interval) → 0 < half → 0 < nominal → AreCuts half negative cuts
+    → AllZip (IsVoltageInterval nominal uncertainty) recorded voltages → AllZip (IsHalfPeriodInterval half) (half_periods cuts voltages) intervals → IsExtremeInterval IsGreatest intervals v → KeepsWidth nominal uncertainty v
+greatest_keeps_width half nominal uncertainty negative recorded voltages cuts intervals v some high are_cuts are_voltages are_intervals is delta covers =
+    greatest_narrow delta intervals v (all_narrow half nominal uncertainty negative recorded voltages cuts intervals delta some high are_cuts are_voltages are_intervals covers) is
 
 -- ---- no interval reaches below 0
 
@@ -175,13 +173,13 @@ greatest_natural half parts intervals v are is = natural_among (map (λ h. h.lo)
 
 -- ---- the levels
 
-pub are_extremes : (half nominal uncertainty : ℕ) (samples : List ℤ) (voltages : List Interval) (cuts : List ℕ) (intervals : List Interval) (e : Extremes) → 0 < half → 0 < nominal → AreCuts half (map is_negative samples) cuts
-    → AllZip (IsVoltageInterval nominal uncertainty) samples voltages → AllZip (IsHalfPeriodInterval half) (half_periods cuts voltages) intervals → AreExtremeIntervals intervals e → AreExtremes half nominal uncertainty samples cuts e
-are_extremes half nominal uncertainty samples voltages cuts intervals e some high are_cuts are_voltages are_intervals are = record {
-  least_holds = least_holds half nominal uncertainty samples voltages cuts intervals e.least high are_voltages are_intervals are.least_is;
-  greatest_holds = greatest_holds half nominal uncertainty samples voltages cuts intervals e.greatest high are_voltages are_intervals are.greatest_is;
-  least_width = least_keeps_width half nominal uncertainty (map is_negative samples) samples voltages cuts intervals e.least some high are_cuts are_voltages are_intervals are.least_is;
-  greatest_width = greatest_keeps_width half nominal uncertainty (map is_negative samples) samples voltages cuts intervals e.greatest some high are_cuts are_voltages are_intervals are.greatest_is;
+pub are_extremes : (half nominal uncertainty : ℕ) (recorded : List Fraction) (voltages : List Interval) (cuts : List ℕ) (intervals : List Interval) (e : Extremes) → 0 < half → 0 < nominal → AreCuts half (map is_below_zero recorded) cuts
+    → AllZip (IsVoltageInterval nominal uncertainty) recorded voltages → AllZip (IsHalfPeriodInterval half) (half_periods cuts voltages) intervals → AreExtremeIntervals intervals e → AreExtremes half nominal uncertainty recorded cuts e
+are_extremes half nominal uncertainty recorded voltages cuts intervals e some high are_cuts are_voltages are_intervals are = record {
+  least_holds = least_holds half nominal uncertainty recorded voltages cuts intervals e.least high are_voltages are_intervals are.least_is;
+  greatest_holds = greatest_holds half nominal uncertainty recorded voltages cuts intervals e.greatest high are_voltages are_intervals are.greatest_is;
+  least_width = least_keeps_width half nominal uncertainty (map is_below_zero recorded) recorded voltages cuts intervals e.least some high are_cuts are_voltages are_intervals are.least_is;
+  greatest_width = greatest_keeps_width half nominal uncertainty (map is_below_zero recorded) recorded voltages cuts intervals e.greatest some high are_cuts are_voltages are_intervals are.greatest_is;
   least_natural = least_natural half (half_periods cuts voltages) intervals e.least are_intervals are.least_is;
   greatest_natural = greatest_natural half (half_periods cuts voltages) intervals e.greatest are_intervals are.greatest_is;
   voltages = voltages;
@@ -192,9 +190,9 @@ are_extremes half nominal uncertainty samples voltages cuts intervals e some hig
   greatest_is = are.greatest_is;
 }
 
-pub are_extremes_if_any : (half nominal uncertainty : ℕ) (samples : List ℤ) (voltages : List Interval) (cuts : List ℕ) (intervals : List Interval) (e : Option Extremes) → 0 < half → 0 < nominal → AreCuts half (map is_negative samples) cuts
-    → AllZip (IsVoltageInterval nominal uncertainty) samples voltages → AllZip (IsHalfPeriodInterval half) (half_periods cuts voltages) intervals → AreExtremeIntervalsIfAny intervals e → AreExtremesIfAny half nominal uncertainty samples cuts e
-are_extremes_if_any half nominal uncertainty samples voltages cuts intervals None some high are_cuts are_voltages are_intervals are =
+pub are_extremes_if_any : (half nominal uncertainty : ℕ) (recorded : List Fraction) (voltages : List Interval) (cuts : List ℕ) (intervals : List Interval) (e : Option Extremes) → 0 < half → 0 < nominal → AreCuts half (map is_below_zero recorded) cuts
+    → AllZip (IsVoltageInterval nominal uncertainty) recorded voltages → AllZip (IsHalfPeriodInterval half) (half_periods cuts voltages) intervals → AreExtremeIntervalsIfAny intervals e → AreExtremesIfAny half nominal uncertainty recorded cuts e
+are_extremes_if_any half nominal uncertainty recorded voltages cuts intervals None some high are_cuts are_voltages are_intervals are =
     omega (arith, are, AllZip-length (IsHalfPeriodInterval half) (half_periods cuts voltages) intervals are_intervals, length-half_periods cuts voltages)
-are_extremes_if_any half nominal uncertainty samples voltages cuts intervals (Some e) some high are_cuts are_voltages are_intervals are =
-    are_extremes half nominal uncertainty samples voltages cuts intervals e some high are_cuts are_voltages are_intervals are
+are_extremes_if_any half nominal uncertainty recorded voltages cuts intervals (Some e) some high are_cuts are_voltages are_intervals are =
+    are_extremes half nominal uncertainty recorded voltages cuts intervals e some high are_cuts are_voltages are_intervals are

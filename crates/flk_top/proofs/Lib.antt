@@ -1,12 +1,13 @@
-pub mod VoltageLemmas
-pub mod ScaleLemmas
 pub mod LevelsLemmas
-mod RecordingLemmas
 mod WidenedLemmas
-mod MeasureState
+mod MeasureLemmas
+mod ReadingLemmas
 mod Words
 mod Digits
-mod Headline
+mod PlainTexts
 mod TablesLemmas
+mod LevelsOnce
 mod Replies
+mod DataReplies
+mod Headline
 mod OneAnswerLemmas

@@ -1,9 +1,12 @@
 pub mod Command
-pub mod Recording
-pub mod Voltage
+pub mod Matching
 pub mod Levels
+pub mod Measuring
+pub mod Reading
+pub mod Checking
+pub mod Faults
 pub mod Text
 pub mod Tables
+pub mod Replies
 pub mod Answer
-pub mod DataReply
 pub mod Headline

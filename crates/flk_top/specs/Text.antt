@@ -1,8 +1,11 @@
--- The lines of the command `levels`.
+-- The lines of the commands `levels` and `check`.
 use Rattle.std.specs.Prelude.{ℕ, ◌-◌, ◌/◌, ◌%◌, ◌^◌, List, ◌++◌, length, replicate, Option, Some, None, codes}
 use Rattle.std.specs.Int.RustNames.{unsigned_abs}
 use Rattle.std.specs.Fmt.{decimal}
 use Rattle.flk_num.specs.declared.interval.Interval.{Interval}
+use Rattle.flk_cfg.specs.declared.config.Config.{Config}
+use Rattle.flk_cfg.specs.declared.config.Form.{Form}
+use Rattle.flk_cfg.specs.declared.config.Form.TheVariants.{Ascii, Binary}
 use Rattle.flk_top.specs.declared.measure.Levels.{Levels}
 use Rattle.flk_top.specs.declared.measure.Extremes.{Extremes}
 
@@ -26,3 +29,13 @@ extremes_text (Some e) = codes "least " ++ (interval_text e.least ++ (codes "\ng
 abbrev pub levels_text : ℕ → Levels → List ℕ
 levels_text channel levels =
     codes "levels channel " ++ (decimal channel ++ (codes "\nhalf-periods " ++ (decimal levels.count ++ (codes "\n" ++ extremes_text levels.extremes))))
+
+abbrev pub form_text : Form → List ℕ
+form_text Ascii = codes "ASCII"
+form_text Binary = codes "BINARY"
+
+-- (`first` is the sample number of the first record.)
+abbrev pub check_text : Config → (first : ℕ) → List ℕ
+check_text c first =
+    codes "check\nanalog " ++ (decimal (length c.analog) ++ (codes " digital " ++ (decimal (length c.digital) ++ (codes "\nrecords " ++ (decimal c.endsamp
+    ++ (codes "\nfirst " ++ (decimal first ++ (codes "\nform " ++ (form_text c.form ++ codes "\n")))))))))

@@ -1,13 +1,14 @@
-//! From the words of the command line to the whole answer.
+//! From the words of a command to its answer.
 
 ghost use Rattle.std.specs.Prelude.{◌≡◌, ◌≢◌, ◌⊎◌, ℕ, ◌≤◌, List, IfOk, string_bytes};
 ghost use Rattle.flk_io.specs.Causes.{Rose, AllStay};
-ghost use Rattle.flk_cfg.specs.declared.config.Config.{Config};
 ghost use Rattle.flk_num.specs.declared.lamp.Lamp.{Lamp as LampView};
-ghost use Rattle.flk_top.specs.Command.{IsLevels, IsTables, IsNoCommand, configuration_name, data_name};
-ghost use Rattle.flk_top.specs.Answer.{Tells, IsDue, IsConfiguration, IsReadSoFar, usage_line, read_line};
+ghost use Rattle.flk_top.specs.Command.{IsTables, IsNoCommand, configuration_name, data_name};
+ghost use Rattle.flk_top.specs.Faults.{usage_line, read_line};
+ghost use Rattle.flk_top.specs.Answer.{Tells, IsDue, ReadsData};
 ghost use Rattle.flk_top.specs.Tables.{IsDueForTables};
 
+use crate::check::check_reply;
 use crate::command::{Command, command_of};
 use crate::levels::levels_reply;
 use crate::reply::{Reply, line};
@@ -26,9 +27,7 @@ pub fn answer<F: Shelf>(alloc: Global, words: &Words, shelf: &mut F) -> Result<R
     ensures append_faults { F.append_faults shelf.new ≡ F.append_faults shelf.old }
     ensures added { AllStay (F.added shelf.old) (F.added shelf.new) }
     ensures others { (name : List ℕ) → name ≢ configuration_name words.now → name ≢ data_name words.now → F.left shelf.new name ≡ F.left shelf.old name }
-    ensures unread { (files : List ℕ → List ℕ) → Tells (F.left shelf.old) files
-        → ((channel nominal uncertainty : ℕ) (c : Config) → IsLevels words.now channel nominal uncertainty
-        → IsConfiguration (files (configuration_name words.now)) c → ¬ IsReadSoFar channel c)
+    ensures unread { (files : List ℕ → List ℕ) → Tells (F.left shelf.old) files → ¬ ReadsData words.now files
         → F.left shelf.new (data_name words.now) ≡ F.left shelf.old (data_name words.now) }
     ensures usage { IsNoCommand words.now → AllStay (F.left shelf.old) (F.left shelf.new) × (F.read_faults shelf.new ≡ F.read_faults shelf.old)
         × IfOk result (λ r. (r.status ≡ 2) × (string_bytes r.text ≡ usage_line)) }
@@ -36,8 +35,9 @@ pub fn answer<F: Shelf>(alloc: Global, words: &Words, shelf: &mut F) -> Result<R
         × IfOk result (λ r. IsDueForTables lamp r.status (string_bytes r.text)) }
 {
     match command_of(words) {
-        Some(Command::Levels(command)) => levels_reply(alloc, words, command, shelf),
-        Some(Command::Tables(lamp)) => tables_reply(alloc, lamp),
         None => line(alloc, 2, "fault usage\n"),
+        Some(Command::Levels(command)) => levels_reply(alloc, words, command, shelf),
+        Some(Command::Check) => check_reply(alloc, words, shelf),
+        Some(Command::Tables(lamp)) => tables_reply(alloc, lamp),
     }
 }

@@ -1,12 +1,12 @@
 //! The words of a command, and what they ask for.
 
-ghost use Rattle.std.specs.Prelude.{ℕ, IfSome, IfNone};
+ghost use Rattle.std.specs.Prelude.{ℕ, IfSome, IfNone, IsTrue, ◌↔◌};
 ghost use Rattle.flk_num.specs.declared.lamp.Lamp.{Lamp as LampView};
-ghost use Rattle.flk_top.specs.Command.{IsNumber, IsNumberIn, IsLevels, IsTables, AsksLevels, Asks, IsNoCommand};
+ghost use Rattle.flk_top.specs.Command.{IsNumber, IsNumberIn, IsLevels, IsCheck, IsTables, AsksLevels, Asks, IsNoCommand};
 
-use crate::scale::Supply;
 use flk_io::Words;
 use flk_num::Lamp;
+use flk_scale::Supply;
 
 /// What `levels` is asked for, beside the names of its two files.
 #[derive(Clone, Copy, Debug)]
@@ -20,6 +20,7 @@ pub struct LevelsCommand {
 #[derive(Clone, Copy, Debug)]
 pub enum Command {
     Levels(LevelsCommand),
+    Check,
     /// The tables of a lamp.
     Tables(Lamp),
 }
@@ -72,6 +73,15 @@ fn levels_command(words: &Words) -> Option<LevelsCommand>
     Some(LevelsCommand { channel, supply })
 }
 
+// Whether the words have the shape of `check`.
+fn is_check(words: &Words) -> bool
+    ensures { IsTrue result ↔ IsCheck words.now }
+{
+    words.len() == 3
+        && words.word(0) == "check"
+        && words.word(CONFIGURATION_WORD) != words.word(DATA_WORD)
+}
+
 // The lamp that `tables` is asked for, and None exactly where the words don't have its shape.
 fn tables_command(words: &Words) -> Option<Lamp>
     ensures some { IfSome result (IsTables words.now) }
@@ -94,6 +104,7 @@ pub fn command_of(words: &Words) -> Option<Command>
 {
     match levels_command(words) {
         Some(command) => Some(Command::Levels(command)),
+        None if is_check(words) => Some(Command::Check),
         None => Some(Command::Tables(tables_command(words)?)),
     }
 }

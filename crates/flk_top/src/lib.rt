@@ -1,29 +1,40 @@
 //! The program's top call: from the words of the command line to a status and a text.
 //!
-//! The words are those of a command (`command`), which `answer` calls. `levels` reads its two files (`levels`), takes the samples
-//! from the data (`recording`), turns each into the interval of its voltages (`scale`), and keeps the least and the greatest value of
-//! the half-periods (`measure`) into which `flk_half` cuts them. `tables` reads nothing (`tables`). The answer is composed whole
-//! (`text`, `reply`) before `run` writes it. That there is one answer, and that its promise speaks of some run, are laws (`laws`).
+//! The words are those of a command (`command`), which `answer` calls. Each reads its configuration first (`configuration`) and then
+//! its data, in pieces and blocks of records (`data`). `check` tells of both (`check`). `levels` finds how its channel is measured
+//! (`matching`), turns each sample into the interval of its voltages by the channel's scale, and keeps the least and the greatest value
+//! (`measure`) of the half-periods into which `flk_half` cuts them (`levels`). The answer is composed whole (`text`, `faults`, `reply`)
+//! before `run` writes it. `tables` reads nothing (`tables`). That there is one answer, and that its promise speaks of some run, are laws (`laws`).
 #![tactic(auto)]
 
 ghost use Rattle.std.specs.Prelude.{◌≡◌, ◌≢◌, ◌⊎◌, ℕ, ◌<◌, List};
 ghost use Rattle.std.specs.Io.KnownBytes.{Appends};
 ghost use Rattle.flk_io.specs.Causes.{Rose, AllStay, AddsFront};
-ghost use Rattle.flk_cfg.specs.declared.config.Config.{Config};
+ghost use Rattle.flk_num.specs.Lamp.{half_of};
 ghost use Rattle.flk_num.specs.declared.lamp.Lamp.{Lamp as LampView};
-ghost use Rattle.flk_top.specs.Command.{IsLevels, IsTables, IsNoCommand, configuration_name, data_name};
-ghost use Rattle.flk_top.specs.Answer.{Tells, IsDue, IsConfiguration, IsReadSoFar, AreAccepted, samples_of, usage_line, read_line};
+ghost use Rattle.flk_cfg.specs.declared.config.Analog.{Analog};
+ghost use Rattle.flk_cfg.specs.declared.config.Config.{Config};
+ghost use Rattle.flk_dat.specs.Records.{DataRecord};
+ghost use Rattle.flk_top.specs.Command.{IsTables, IsNoCommand, configuration_name, data_name};
+ghost use Rattle.flk_top.specs.Matching.{recorded_voltages};
+ghost use Rattle.flk_top.specs.Faults.{usage_line, read_line};
+ghost use Rattle.flk_top.specs.Answer.{Tells, IsDue, ReadsData, AreAccepted};
 ghost use Rattle.flk_top.specs.Headline.{TellsLevels};
 ghost use Rattle.flk_top.specs.Tables.{IsDueForTables};
 
 mod answer;
+mod check;
 mod command;
+mod configuration;
+mod data;
+#[cfg(test)]
+mod data_tests;
+mod faults;
 mod laws;
 mod levels;
+mod matching;
 mod measure;
-mod recording;
 mod reply;
-mod scale;
 mod tables;
 #[cfg(test)]
 mod tests;
@@ -58,8 +69,8 @@ pub fn run<R: Threads + Sync, F: Shelf, K: Sink, G: Gate + Sync>(
 
     // Files that are accepted: their levels are told, with intervals that hold every exact run and keep the stated width.
     ensures levels { result ≢ 4 → result ≢ 5 → result ≢ 6 → (files : List ℕ → List ℕ) → Tells (F.left shelf.old) files
-        → (channel nominal uncertainty n : ℕ) → AreAccepted words.now files channel nominal uncertainty n
-        → (text : List ℕ) × TellsLevels channel nominal uncertainty (samples_of words.now files n) result text × Appends (K.written sink.old) (K.written sink.new) text }
+        → (channel nominal uncertainty : ℕ) (c : Config) (a : Analog) (lamp : LampView) (rs : List DataRecord) → AreAccepted words.now files channel nominal uncertainty c a lamp rs
+        → (text : List ℕ) × TellsLevels channel (half_of lamp) nominal uncertainty (recorded_voltages a channel rs) result text × Appends (K.written sink.old) (K.written sink.new) text }
 
     // Any words and files: the text that is due is written whole, each exactly where its row says.
     ensures text { result ≢ 4 → result ≢ 5 → result ≢ 6 → (files : List ℕ → List ℕ) → Tells (F.left shelf.old) files
@@ -91,12 +102,10 @@ pub fn run<R: Threads + Sync, F: Shelf, K: Sink, G: Gate + Sync>(
     ensures tables_front { (lamp : LampView) → IsTables words.now lamp → result ≡ 5
         → (status : ℕ) × (text : List ℕ) × IsDueForTables lamp status text × AddsFront (K.written sink.old) (K.written sink.new) text }
 
-    // Nothing is read but under the two names of `levels`, the data only after a configuration of the form that is read so far,
-    // and nothing is appended.
+    // Nothing is read but under the names of the two files, the data only after a configuration that is accepted and, for levels, has
+    // the channel to measure, and nothing is appended.
     ensures others { (name : List ℕ) → name ≢ configuration_name words.now → name ≢ data_name words.now → F.left shelf.new name ≡ F.left shelf.old name }
-    ensures unread { (files : List ℕ → List ℕ) → Tells (F.left shelf.old) files
-        → ((channel nominal uncertainty : ℕ) (c : Config) → IsLevels words.now channel nominal uncertainty
-        → IsConfiguration (files (configuration_name words.now)) c → ¬ IsReadSoFar channel c)
+    ensures unread { (files : List ℕ → List ℕ) → Tells (F.left shelf.old) files → ¬ ReadsData words.now files
         → F.left shelf.new (data_name words.now) ≡ F.left shelf.old (data_name words.now) }
     ensures added { AllStay (F.added shelf.old) (F.added shelf.new) }
     ensures append_faults { F.append_faults shelf.new ≡ F.append_faults shelf.old }

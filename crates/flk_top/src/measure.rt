@@ -1,14 +1,19 @@
-//! From the samples of a recording to its levels.
+//! From the samples of a channel to its levels.
 
-ghost use Rattle.std.specs.Prelude.{◌≡◌, ◌^◌, ◌<◌, IfOk, IfErr, OnOk};
+ghost use Rattle.std.specs.Prelude.{◌≡◌, ◌+◌, ◌^◌, ◌<◌, ◌≤◌, List, [], ◌∷◌, ◌++◌, OnOk, OnErr};
 ghost use Rattle.std.specs.Int.{int_min, int_max};
-ghost use Rattle.flk_top.specs.Recording.{IsRecording, samples};
-ghost use Rattle.flk_top.specs.Levels.{IsFirstOver, IsWithinRange, AreLevels, Widens};
+ghost use Rattle.flk_exact.specs.Fraction.{Fraction};
+ghost use Rattle.flk_num.specs.Lamp.{half_of};
+ghost use Rattle.flk_scale.specs.Voltage.{IsOverRange};
+ghost use Rattle.flk_scale.specs.Scale.{voltage_of, nominal_of, uncertainty_of};
+ghost use Rattle.flk_top.specs.Levels.{AreLevels, Widens, Gains};
 
-use crate::recording::value;
-use crate::scale::{Scale, Supply};
+use crate::data::Taker;
+use crate::matching::Matched;
+use flk_dat::Block;
 use flk_half::Cutter;
 use flk_num::Interval;
+use flk_scale::OverRange;
 
 /// The least and the greatest half-period value of a recording, each as the interval in billionths of nominal that holds it for every
 /// run of exact voltages within the uncertainty.
@@ -24,13 +29,6 @@ pub struct Levels {
     pub count: usize,
     pub extremes: Option<Extremes>,
 }
-
-/// The first sample over range, counted from 0.
-#[derive(Clone, Copy, Debug, PartialEq, Eq)]
-pub struct FirstOver(pub usize);
-
-/// Samples in half a nominal period of 50 Hz.
-const HALF: usize = 24;
 
 // From the lesser lo to the lesser hi.
 fn lesser(r: Interval, v: Interval) -> Interval
@@ -70,29 +68,112 @@ fn widened(extremes: Option<Extremes>, value: Interval) -> Extremes
     }
 }
 
-/// The levels of a recording: its half-periods, of 24 samples each at nominal frequency, and the extremes of their values, as IEC
-/// 61000-3-3 judges them. The error comes exactly where a sample's recorded voltage is above four times nominal in size, and names
-/// the first such sample. One pass over the bytes; takes no memory.
-pub fn measure(bytes: &[u8], records: usize, supply: Supply) -> Result<Levels, FirstOver>
-    requires few { records < 2 ^ 32 }
-    requires recording { IsRecording records bytes.now }
-    ensures levels { IfOk result (AreLevels 24 supply.nominal_mv supply.uncertainty_uv (samples bytes.now records)) }
-    ensures within { OnOk result (IsWithinRange supply.nominal_mv (samples bytes.now records)) }
-    ensures over { IfErr result (λ e. IsFirstOver supply.nominal_mv (samples bytes.now records) e.0) }
+// The levels with one half-period more, where one ended.
+fn with_half_period(levels: Levels, half_period: Option<Interval>) -> Levels
+    requires { levels.count < 2 ^ 32 }
+    ensures { Gains levels half_period result }
 {
-    let scale = Scale::new(supply);
-    let mut cutter = Cutter::new(HALF);
-    let mut count = 0;
-    let mut extremes = None;
-    for k in 0..records {
-        let sample = value(bytes, k);
-        let Ok(voltage) = scale.voltage(sample) else {
-            return Err(FirstOver(k));
-        };
-        if let Some(half_period) = cutter.push(sample < 0, voltage) {
-            count += 1;
-            extremes = Some(widened(extremes, half_period));
+    match half_period {
+        None => levels,
+        Some(value) => Levels {
+            count: levels.count + 1,
+            extremes: Some(widened(levels.extremes, value)),
+        },
+    }
+}
+
+/// The levels of the samples of a channel that were taken so far.
+#[derive(Clone, Copy, Debug)]
+pub struct Measure {
+    pub matched: Matched,
+    /// The channel, from 0.
+    pub channel: usize,
+    /// How many samples were taken.
+    pub taken: u32,
+    pub cutter: Cutter,
+    pub levels: Levels,
+    pub ghost few: { levels.count ≤ taken },
+}
+
+impl Measure {
+    ghost use Rattle.flk_top.specs.Measuring.{HasMeasured, IsSameMeasurement};
+
+    /// Of no sample yet, for a channel, from 0.
+    pub fn new(matched: Matched, channel: usize) -> Measure
+        ensures nothing { HasMeasured result [] }
+        ensures matched { result.matched ≡ matched }
+        ensures channel { result.channel ≡ channel }
+    {
+        Measure {
+            matched,
+            channel,
+            taken: 0,
+            cutter: Cutter::new(matched.lamp.half()),
+            levels: Levels {
+                count: 0,
+                extremes: None,
+            },
         }
     }
-    Ok(Levels { count, extremes })
+
+    /// The levels of the samples taken.
+    pub fn levels(&self) -> Levels
+        requires { 0 < nominal_of self.now.matched.scale }
+        ensures { (recorded : List Fraction) → HasMeasured self.now recorded
+            → AreLevels (half_of self.now.matched.lamp) (nominal_of self.now.matched.scale) (uncertainty_of self.now.matched.scale) recorded result }
+    {
+        self.levels
+    }
+
+    // Takes the next sample. The error is that its voltage is over range.
+    fn sample(&mut self, x: i32) -> Result<(), OverRange>
+        requires { self.old.taken + 1 < 2 ^ 32 }
+        ensures same { IsSameMeasurement self.old self.new }
+        ensures taken { OnOk result (self.new.taken ≡ self.old.taken + 1) }
+        ensures measured { OnOk result ((recorded : List Fraction) → HasMeasured self.old recorded → HasMeasured self.new (recorded ++ voltage_of self.old.matched.scale x ∷ [])) }
+        ensures over { OnErr result (IsOverRange (nominal_of self.old.matched.scale) (voltage_of self.old.matched.scale x)) }
+        ensures unchanged { OnErr result (self.new ≡ self.old) }
+    {
+        let voltage = match self.matched.scale.voltage(x) {
+            Ok(voltage) => voltage,
+            Err(over) => return Err(over),
+        };
+        let negative = self.matched.scale.negative(x);
+        let mut cutter = self.cutter;
+        let levels = with_half_period(self.levels, cutter.push(negative, voltage));
+        *self = Measure {
+            matched: self.matched,
+            channel: self.channel,
+            taken: self.taken + 1,
+            cutter,
+            levels,
+        };
+        Ok(())
+    }
+}
+
+impl Taker for Measure {
+    ghost use Rattle.std.specs.Prelude.{◌+◌, map};
+    ghost use Rattle.flk_scale.specs.Scale.{nominal_of};
+    ghost use Rattle.flk_top.specs.Levels.{IsFirstOver};
+    ghost use Rattle.flk_top.specs.Measuring.{told_voltage, HasMeasured};
+
+    type Purpose = (Matched, usize);
+
+    ghost purpose = { λ m. (m.matched, m.channel) };
+
+    ghost stands = { λ m rs. HasMeasured m (map (told_voltage m) rs) };
+
+    ghost refuses = { λ m rs i. IsFirstOver (nominal_of m.matched.scale) (map (told_voltage m) rs) i };
+
+    ghost channels = { λ m. m.channel + 1 };
+
+    fn take(&mut self, block: &Block) -> Result<(), u32> {
+        for row in 0..block.rows() {
+            let Ok(()) = self.sample(block.analog(row, self.channel)) else {
+                return Err(self.taken);
+            };
+        }
+        Ok(())
+    }
 }

@@ -11,7 +11,7 @@ const BACK: &str =
     "1\r\n2400,4800\r\n12/03/2021,09:15:00.000000\r\n12/03/2021,09:15:00.000000\r\nBINARY\r\n1\r\n";
 
 /// A gate at which nothing is done.
-struct Open;
+pub struct Open;
 
 impl Gate for Open {
     fn enter(&self, phase: usize) {
@@ -20,7 +20,7 @@ impl Gate for Open {
 }
 
 // 4800 samples, in turn 24 of 230 V and 24 of -230 V.
-fn square_wave(alloc: Global) -> Result<Vec<u8>, OutOfMemory> {
+pub fn square_wave(alloc: Global) -> Result<Vec<u8>, OutOfMemory> {
     let mut bytes = Vec::new(alloc);
     for k in 0..4800u32 {
         let value: i16 = if k / 24 % 2 == 0 { 23000 } else { -23000 };
@@ -32,7 +32,7 @@ fn square_wave(alloc: Global) -> Result<Vec<u8>, OutOfMemory> {
 }
 
 // The configuration with one part of its text replaced by another.
-fn varied(alloc: Global, old: &str, new: &str) -> Result<String, OutOfMemory> {
+pub fn varied(alloc: Global, old: &str, new: &str) -> Result<String, OutOfMemory> {
     let mut whole = String::from_str(alloc, FRONT)?;
     whole.push_str(BACK)?;
     let mut text = String::new(alloc);
@@ -57,7 +57,7 @@ fn filled_shelf(alloc: Global) -> Result<MemShelf, OutOfMemory> {
     Ok(shelf)
 }
 
-fn words_of(alloc: Global, line: &str) -> Result<Words, OutOfMemory> {
+pub fn words_of(alloc: Global, line: &str) -> Result<Words, OutOfMemory> {
     let mut words = Words::new(alloc);
     for word in line.split_ascii_whitespace() {
         words.push(word)?;
@@ -68,7 +68,7 @@ fn words_of(alloc: Global, line: &str) -> Result<Words, OutOfMemory> {
 const EXACT: &str =
     "levels channel 1\nhalf-periods 199\nleast 1.000000000 to 1.000000000\ngreatest 1.000000000 to 1.000000000\n";
 
-const UNCERTAIN: &str =
+pub const UNCERTAIN: &str =
     "levels channel 1\nhalf-periods 199\nleast 0.999999995 to 1.000000004\ngreatest 0.999999995 to 1.000000004\n";
 
 const TABLES_230: &str = "section 1 4294686209 -4294686209 0 -4294405123 0
@@ -110,8 +110,9 @@ fn each_answer(rt: HostRuntime) -> Result<(), Fail> {
         ("levels X Y 1 230000 1", 0, UNCERTAIN),
         ("levels X Y 1 50000 0", 2, "fault range 1 1\n"),
         ("levels Z Y 1 230000 0", 0, EXACT),
-        ("levels X Y 2 230000 0", 2, "fault notyet\n"),
         ("levels X X 1 230000 0", 2, "fault usage\n"),
+        ("check X X", 2, "fault usage\n"),
+        ("check X Y 1", 2, "fault usage\n"),
         ("tables", 2, "fault usage\n"),
         ("tables 230/60", 2, "fault usage\n"),
         ("tables 230/50 X", 2, "fault usage\n"),
@@ -153,7 +154,9 @@ fn each_fault_of_a_configuration(rt: HostRuntime) -> Result<(), Fail> {
             "Y\r\n1\r\n0\r\n",
             "fault configuration 11 0 8\n",
         ),
-        ("\r\n50\r\n", "\r\n60\r\n", "fault notyet\n"),
+        (",V,", ",A,", "fault match 2 1 0\n"),
+        (",0.01,", ",10000.5,", "fault match 3 1 0\n"),
+        ("\r\n50\r\n", "\r\n55\r\n", "fault match 4 0 55\n"),
     ] {
         let configuration = varied(rt.alloc(), old, new)?;
         assert!(rt;
@@ -181,12 +184,13 @@ fn a_configuration_above_the_limit(rt: HostRuntime) -> Result<(), Fail> {
     Ok(())
 }
 
-// The first read fails, and then the second write of 16 bytes.
+// The first read fails, then the first of the data, and then the second write of 16 bytes.
 #[test]
 fn failures_are_told(rt: HostRuntime) -> Result<(), Fail> {
     let words = words_of(rt.alloc(), "levels X Y 1 230000 0")?;
     for (read, write, status, text, faults) in [
         (1, 9, 4, "fault read\n", (1, 0)),
+        (3, 9, 4, "fault read\n", (1, 0)),
         (9, 2, 5, "levels channel 1", (0, 1)),
     ] {
         let mut shelf = filled_shelf(rt.alloc())?;

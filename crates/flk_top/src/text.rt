@@ -1,9 +1,10 @@
-//! The text of `levels`.
+//! The texts of `levels` and `check`.
 
 ghost use Rattle.std.specs.Prelude.{◌≡◌, Some, IfOk, string_bytes};
-ghost use Rattle.flk_top.specs.Text.{billionths, interval_text, levels_text};
+ghost use Rattle.flk_top.specs.Text.{billionths, interval_text, levels_text, form_text, check_text};
 
 use crate::measure::Levels;
+use flk_cfg::{Config, Form};
 use flk_num::Interval;
 use std::alloc::{AllocError, Global};
 use std::fmt;
@@ -55,4 +56,26 @@ pub fn levels_lines(alloc: Global, channel: u32, levels: Levels) -> Result<Strin
             )
         }
     }
+}
+
+fn form_word(form: Form) -> &'static str
+    ensures { result.now ≡ form_text form }
+{
+    match form {
+        Form::Ascii => "ASCII",
+        Form::Binary => "BINARY",
+    }
+}
+
+/// The five lines of `check`, for data whose first record has this sample number.
+pub fn check_lines(alloc: Global, config: &Config, first: u32) -> Result<String, AllocError>
+    ensures { IfOk result (λ text. string_bytes text ≡ check_text config.now first) }
+{
+    let analog = config.analog.as_slice().len();
+    let digital = config.digital.as_slice().len();
+    let records = config.endsamp;
+    let form = form_word(config.form);
+    format!(in alloc;
+        "check\nanalog {analog} digital {digital}\nrecords {records}\nfirst {first}\nform {form}\n"
+    )
 }

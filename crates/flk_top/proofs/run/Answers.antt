@@ -11,10 +11,10 @@ returns-in-Ok-write_all-clause-text g c = λ a b d files tells.
     (string_bytes c.in-Ok.reply.text, c.in-Ok.ensures.due a files tells, appends)
 
 pub returns-in-Ok-write_all-clause-levels : goal.returns-in-Ok-write_all-clause-levels
-returns-in-Ok-write_all-clause-levels g c = λ a b d files tells channel nominal uncertainty n accepted.
+returns-in-Ok-write_all-clause-levels g c = λ a b d files tells channel nominal uncertainty config analog lamp rs accepted.
     let appends : Appends (g.K.Sink.written c.args.sink.now) (g.K.Sink.written c.write_all.new.sink) (string_bytes c.in-Ok.reply.text) = search rules in
     let text = string_bytes c.in-Ok.reply.text in
-    (text, tells_levels c.args.words.now files channel nominal uncertainty n c.in-Ok.reply.status text accepted (c.in-Ok.ensures.due a files tells), appends)
+    (text, tells_levels c.args.words.now files channel nominal uncertainty config analog lamp rs c.in-Ok.reply.status text accepted (c.in-Ok.ensures.due a files tells), appends)
 
 pub returns-clause-write_text : goal.returns-clause-write_text
 returns-clause-write_text g c = λ five files tells.

@@ -1,4 +1,4 @@
-use Rattle.flk_top.proofs.OneAnswerLemmas.{some_run}
+use Rattle.flk_top.proofs.LevelsOnce.{some_run}
 use Rattle.flk_top.proofs.laws.promise_is_not_empty.Goals as goal
 
 pub returns : goal.returns

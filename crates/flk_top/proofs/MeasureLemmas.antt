@@ -1,0 +1,201 @@
+-- What one more sample does to a measurement.
+use Rattle.std.proofs.Common.{◌≡◌, ℕ, ◌+◌, ◌-◌, ◌<◌, Bool, List, [], ◌∷◌, ◌++◌, length, map, take, drop, ℤ, pos, Option, Some, None, IfSome, IfNone, sym, subst, ap, ◌∙◌, refl, arith, length-drop, length-append, append_assoc, ⊎_elim}
+use Rattle.std.specs.Prelude.{slice_range, slice_index_or}
+use Rattle.std.specs.List.{All}
+use Rattle.std.proofs.lemmas.Bool.{cases_lt}
+use Rattle.std.proofs.lemmas.List.{map-append, take_all, take_more, take-append-drop, get_or_append_left}
+use Rattle.std.proofs.Math.Seq.{get_or-append_seam}
+use Rattle.flk_exact.specs.Fraction.{Fraction, whole}
+use Rattle.flk_exact.specs.Cut.{AreCuts, half_periods, last_cut}
+use Rattle.flk_exact.proofs.ListLemmas.{AllZip-push, slice_range-append}
+use Rattle.flk_exact.proofs.CutLemmas.{half_periods-append, half_periods-push, AreCuts-below}
+use Rattle.flk_num.specs.Lamp.{half_of}
+use Rattle.flk_num.specs.declared.lamp.Lamp.{Lamp}
+use Rattle.flk_num.specs.declared.lamp.Lamp.TheVariants.{L230, L120}
+use Rattle.flk_num.specs.declared.interval.Interval.{Interval}
+use Rattle.flk_scale.specs.Voltage.{is_below_zero, IsVoltageInterval, IsOverRange}
+use Rattle.flk_scale.specs.Scale.{nominal_of, uncertainty_of, voltage_of}
+use Rattle.flk_half.specs.Cutter.{IsHalfPeriodInterval, Continues, EndsHalfPeriod}
+use Rattle.flk_dat.specs.Records.{DataRecord, record_at, no_record}
+use Rattle.flk_top.specs.Levels.{AreExtremeIntervalsIfAny, Gains, AreLevels, IsFirstOver, IsWithinRange, voltage_at}
+use Rattle.flk_top.specs.Measuring.{told_voltage, HasMeasured, IsSameMeasurement}
+use Rattle.flk_top.specs.declared.measure.Levels.{Levels}
+use Rattle.flk_top.specs.declared.measure.Measure.{Measure}
+use Rattle.flk_top.specs.declared.matching.Matched.{Matched}
+use Rattle.flk_top.proofs.LevelsLemmas.{are_extremes_if_any}
+
+-- the half-periods with one sample more, where none ends before it
+parts_more : (half : ℕ) (negative : List Bool) (voltages : List Interval) (cuts : List ℕ) (v : Interval) → AreCuts half negative cuts → length voltages ≡ length negative → half_periods cuts (voltages ++ v ∷ []) ≡ half_periods cuts voltages
+parts_more half negative voltages cuts v are same =
+    half_periods-append cuts voltages (v ∷ []) (subst (λ (n : ℕ). All (λ p. p < n) cuts) (sym same) (AreCuts-below half negative cuts are))
+
+-- and where one ends
+parts_push : (half : ℕ) (negative : List Bool) (voltages : List Interval) (cuts : List ℕ) (v : Interval) → AreCuts half negative cuts → length voltages ≡ length negative
+    → half_periods (cuts ++ length negative ∷ []) (voltages ++ v ∷ []) ≡ half_periods cuts voltages ++ drop (last_cut cuts) voltages ∷ []
+parts_push half negative voltages cuts v are same =
+    let p = length negative in
+    let s = last_cut cuts in
+    let pushed = half_periods-push cuts p (voltages ++ v ∷ []) in
+    let before = parts_more half negative voltages cuts v are same in
+    let part = slice_range-append s p voltages (v ∷ []) (omega (arith, same)) in
+    let whole : slice_range voltages s p ≡ drop s voltages = take_all (p - s) (drop s voltages) (omega (arith, same, length-drop s voltages)) in
+    cc
+
+-- ---- no voltage over range
+
+-- a voltage before the last one is that of the list before it
+voltage_before : (recorded : List Fraction) (v : Fraction) (k : ℕ) → k < length recorded → voltage_at (recorded ++ v ∷ []) k ≡ voltage_at recorded k
+voltage_before recorded v k less = get_or_append_left recorded (v ∷ []) (whole (pos 0)) k less
+
+voltage_last : (recorded : List Fraction) (v : Fraction) → voltage_at (recorded ++ v ∷ []) (length recorded) ≡ v
+voltage_last recorded v = get_or-append_seam recorded v [] (whole (pos 0))
+
+within_more : (nominal : ℕ) (recorded : List Fraction) (v : Fraction) → IsWithinRange nominal recorded → ¬ IsOverRange nominal v → IsWithinRange nominal (recorded ++ v ∷ [])
+within_more nominal recorded v within fine = λ k less over.
+    ⊎_elim
+    (λ before. within k before (subst (IsOverRange nominal) (voltage_before recorded v k before) over))
+    (λ last.
+    let here : k ≡ length recorded = omega (arith, less, last, length-append recorded (v ∷ [])) in
+    fine (subst (IsOverRange nominal) (ap (voltage_at (recorded ++ v ∷ [])) here ∙ voltage_last recorded v) over))
+    (cases_lt k (length recorded))
+
+-- ---- one sample more
+
+-- a sample before which no half-period ends
+pub measured_continues : (old new : Measure) (recorded : List Fraction) (x : Fraction) (v : Interval) → HasMeasured old recorded → new.matched ≡ old.matched
+    → new.taken ≡ old.taken + 1 → new.levels ≡ old.levels → ¬ IsOverRange (nominal_of old.matched.scale) x
+    → IsVoltageInterval (nominal_of old.matched.scale) (uncertainty_of old.matched.scale) x v → Continues old.cutter new.cutter (is_below_zero x) v → HasMeasured new (recorded ++ x ∷ [])
+measured_continues old new recorded x v h matched taken levels fine is step =
+    let signs = map-append is_below_zero recorded (x ∷ []) in
+    let m = old.matched in
+    record {
+      voltages = h.voltages ++ v ∷ [];
+      cuts = h.cuts;
+      intervals = h.intervals;
+      are_voltages = rw matched (AllZip-push (IsVoltageInterval (nominal_of m.scale) (uncertainty_of m.scale)) recorded h.voltages x v h.are_voltages is);
+      stands = rw (matched, signs) (step (half_of m.lamp) (map is_below_zero recorded) h.voltages h.cuts h.stands);
+      are_intervals = rw (matched, parts_more (half_of m.lamp) (map is_below_zero recorded) h.voltages h.cuts v h.stands.are_cuts h.stands.same_length) h.are_intervals;
+      count = ap (λ (l : Levels). l.count) levels ∙ h.count;
+      extremes = subst (λ (l : Levels). AreExtremeIntervalsIfAny h.intervals l.extremes) (sym levels) h.extremes;
+      within = rw matched (within_more (nominal_of m.scale) recorded x h.within fine);
+      taken = omega (arith, taken, h.taken, length-append recorded (x ∷ []));
+    }
+
+-- and one before which a half-period ends
+pub measured_ends : (old new : Measure) (recorded : List Fraction) (x : Fraction) (v value : Interval) → HasMeasured old recorded → new.matched ≡ old.matched
+    → new.taken ≡ old.taken + 1 → Gains old.levels (Some value) new.levels → ¬ IsOverRange (nominal_of old.matched.scale) x
+    → IsVoltageInterval (nominal_of old.matched.scale) (uncertainty_of old.matched.scale) x v → EndsHalfPeriod old.cutter new.cutter (is_below_zero x) v value → HasMeasured new (recorded ++ x ∷ [])
+measured_ends old new recorded x v value h matched taken gains fine is step =
+    let signs = map-append is_below_zero recorded (x ∷ []) in
+    let m = old.matched in
+    let half = half_of m.lamp in
+    let ends = step half (map is_below_zero recorded) h.voltages h.cuts h.stands in
+    let parts = parts_push half (map is_below_zero recorded) h.voltages h.cuts v h.stands.are_cuts h.stands.same_length in
+    record {
+      voltages = h.voltages ++ v ∷ [];
+      cuts = h.cuts ++ length (map is_below_zero recorded) ∷ [];
+      intervals = h.intervals ++ value ∷ [];
+      are_voltages = rw matched (AllZip-push (IsVoltageInterval (nominal_of m.scale) (uncertainty_of m.scale)) recorded h.voltages x v h.are_voltages is);
+      stands = rw (matched, signs) ends.stands;
+      are_intervals = rw (matched, parts) (AllZip-push (IsHalfPeriodInterval half) (half_periods h.cuts h.voltages) h.intervals (drop (last_cut h.cuts) h.voltages) value h.are_intervals ends.interval);
+      count = omega (arith, gains.0, h.count, length-append h.cuts (length (map is_below_zero recorded) ∷ []));
+      extremes = subst (AreExtremeIntervalsIfAny (h.intervals ++ value ∷ [])) (sym gains.2) (gains.3 h.intervals h.extremes);
+      within = rw matched (within_more (nominal_of m.scale) recorded x h.within fine);
+      taken = omega (arith, taken, h.taken, length-append recorded (x ∷ []));
+    }
+
+pub measured_more : (old new : Measure) (recorded : List Fraction) (x : Fraction) (v : Interval) (o : Option Interval) → HasMeasured old recorded → new.matched ≡ old.matched
+    → new.taken ≡ old.taken + 1 → Gains old.levels o new.levels → ¬ IsOverRange (nominal_of old.matched.scale) x
+    → IsVoltageInterval (nominal_of old.matched.scale) (uncertainty_of old.matched.scale) x v
+    → IfNone o (Continues old.cutter new.cutter (is_below_zero x) v) → IfSome o (EndsHalfPeriod old.cutter new.cutter (is_below_zero x) v) → HasMeasured new (recorded ++ x ∷ [])
+measured_more old new recorded x v None h matched taken gains fine is continues ends = measured_continues old new recorded x v h matched taken gains fine is continues
+measured_more old new recorded x v (Some value) h matched taken gains fine is continues ends = measured_ends old new recorded x v value h matched taken gains fine is ends
+
+half_some : (lamp : Lamp) → 0 < half_of lamp
+half_some L230 = omega arith
+half_some L120 = omega arith
+
+-- at the end these are the levels
+pub measured_levels : (m : Measure) (recorded : List Fraction) → 0 < nominal_of m.matched.scale → HasMeasured m recorded
+    → AreLevels (half_of m.matched.lamp) (nominal_of m.matched.scale) (uncertainty_of m.matched.scale) recorded m.levels
+measured_levels m recorded high h = record {
+  cuts = h.cuts;
+  are_cuts = h.stands.are_cuts;
+  count = h.count;
+  extremes = are_extremes_if_any (half_of m.matched.lamp) (nominal_of m.matched.scale) (uncertainty_of m.matched.scale) recorded h.voltages h.cuts h.intervals m.levels.extremes (half_some m.matched.lamp) high h.stands.are_cuts h.are_voltages h.are_intervals h.extremes;
+}
+
+-- ---- the records of a block
+
+-- the voltage of a sample is the one that its record tells
+pub told_of : (m now : Measure) (r : DataRecord) (x : ℤ) → IsSameMeasurement m now → x ≡ slice_index_or r.analog now.channel (pos 0) → voltage_of now.matched.scale x ≡ told_voltage m r
+told_of m now r x same is = rw (is, same.matched, same.channel) refl
+
+-- the voltages of one record more
+told_more : (f : DataRecord → Fraction) (recorded : List Fraction) (rs : List DataRecord) (k : ℕ) → k < length rs
+    → (recorded ++ map f (take k rs)) ++ f (record_at rs k) ∷ [] ≡ recorded ++ map f (take (k + 1) rs)
+told_more f recorded rs k less =
+    rw (take_more rs k no_record less, map-append f (take k rs) (record_at rs k ∷ [])) (append_assoc recorded (map f (take k rs)) (f (record_at rs k) ∷ []))
+
+pub measured_record : (m now next : Measure) (recorded : List Fraction) (rs : List DataRecord) (k : ℕ) (x : ℤ) → IsSameMeasurement m now → k < length rs → x ≡ slice_index_or (record_at rs k).analog now.channel (pos 0)
+    → HasMeasured next ((recorded ++ map (told_voltage m) (take k rs)) ++ voltage_of now.matched.scale x ∷ []) → HasMeasured next (recorded ++ map (told_voltage m) (take (k + 1) rs))
+measured_record m now next recorded rs k x same less is h =
+    let P : Fraction → Type 0 = λ v. HasMeasured next ((recorded ++ map (told_voltage m) (take k rs)) ++ v ∷ []) in
+    subst (HasMeasured next) (told_more (told_voltage m) recorded rs k less) (subst P (told_of m now (record_at rs k) x same is) h)
+
+-- a voltage over range behind voltages within range is the first
+first_over : (nominal : ℕ) (front : List Fraction) (v : Fraction) (back : List Fraction) → IsWithinRange nominal front → IsOverRange nominal v → IsFirstOver nominal ((front ++ v ∷ []) ++ back) (length front)
+first_over nominal front v back within over =
+    let few : length (front ++ v ∷ []) ≡ length front + 1 = omega (arith, length-append front (v ∷ [])) in
+    let here : voltage_at ((front ++ v ∷ []) ++ back) (length front) ≡ v = get_or_append_left (front ++ v ∷ []) back (whole (pos 0)) (length front) (omega (arith, few)) ∙ voltage_last front v in
+    record {
+      there = omega (arith, few, length-append (front ++ v ∷ []) back);
+      over = subst (IsOverRange nominal) (sym here) over;
+      first = λ k less again.
+          within k less
+          (subst (IsOverRange nominal) (get_or_append_left (front ++ v ∷ []) back (whole (pos 0)) k (omega (arith, few, less)) ∙ voltage_before front v k less) again);
+    }
+
+told_split : (f : DataRecord → Fraction) (past rs : List DataRecord) (k : ℕ) → k < length rs
+    → ((map f past ++ map f (take k rs)) ++ f (record_at rs k) ∷ []) ++ map f (drop (k + 1) rs) ≡ map f (past ++ rs)
+told_split f past rs k less =
+    let joined : map f (take (k + 1) rs) ++ map f (drop (k + 1) rs) ≡ map f rs = sym (map-append f (take (k + 1) rs) (drop (k + 1) rs)) ∙ ap (map f) (take-append-drop (k + 1) rs) in
+    rw (told_more f (map f past) rs k less, map-append f past rs) (append_assoc (map f past) (map f (take (k + 1) rs)) (map f (drop (k + 1) rs)) ∙ ap (λ ys. map f past ++ ys) joined)
+
+pub refused_record : (m now : Measure) (past rs : List DataRecord) (k i : ℕ) (x : ℤ) → IsSameMeasurement m now → HasMeasured now (map (told_voltage m) past ++ map (told_voltage m) (take k rs))
+    → k < length rs → x ≡ slice_index_or (record_at rs k).analog now.channel (pos 0) → IsOverRange (nominal_of now.matched.scale) (voltage_of now.matched.scale x) → i ≡ now.taken
+    → IsFirstOver (nominal_of m.matched.scale) (map (told_voltage m) (past ++ rs)) i
+refused_record m now past rs k i x same h less is over place =
+    let f = told_voltage m in
+    let nominal = nominal_of m.matched.scale in
+    let front = map f past ++ map f (take k rs) in
+    let P : Matched → Type 0 = λ a. IsWithinRange (nominal_of a.scale) front in
+    let Q : Matched → Type 0 = λ a. IsOverRange (nominal_of a.scale) (voltage_of now.matched.scale x) in
+    let there = subst (IsOverRange nominal) (told_of m now (record_at rs k) x same is) (subst Q same.matched over) in
+    let first = first_over nominal front (f (record_at rs k)) (map f (drop (k + 1) rs)) (subst P same.matched h.within) there in
+    let R : ℕ → Type 0 = λ n. IsFirstOver nominal (map f (past ++ rs)) n in
+    subst R (sym (place ∙ h.taken)) (subst (λ vs. IsFirstOver nominal vs (length front)) (told_split f past rs k less) first)
+
+-- all records of a block
+pub measured_block : (m now : Measure) (past rs : List DataRecord) (k : ℕ) → IsSameMeasurement m now → k ≡ length rs
+    → HasMeasured now (map (told_voltage m) past ++ map (told_voltage m) (take k rs)) → HasMeasured now (map (told_voltage now) (past ++ rs))
+measured_block m now past rs k same all h =
+    let f = told_voltage m in
+    let whole_block : take k rs ≡ rs = take_all k rs (omega (arith, all)) in
+    let joined : map f past ++ map f (take k rs) ≡ map f (past ++ rs) = rw whole_block (sym (map-append f past rs)) in
+    let told : told_voltage now ≡ f = rw (same.matched, same.channel) refl in
+    rw told (subst (HasMeasured now) joined h)
+
+-- what is refused is the same as before
+pub refused_same : (m now : Measure) (rs : List DataRecord) (i : ℕ) → IsSameMeasurement m now → IsFirstOver (nominal_of now.matched.scale) (map (told_voltage now) rs) i
+    → IsFirstOver (nominal_of m.matched.scale) (map (told_voltage m) rs) i
+refused_same m now rs i same h =
+    let told : told_voltage now ≡ told_voltage m = rw (same.matched, same.channel) refl in
+    let P : Matched → Type 0 = λ a. IsFirstOver (nominal_of a.scale) (map (told_voltage m) rs) i in
+    subst P same.matched (subst (λ f. IsFirstOver (nominal_of now.matched.scale) (map f rs) i) told h)
+
+pub still_same : (m now next : Measure) → IsSameMeasurement m now → IsSameMeasurement now next → IsSameMeasurement m next
+still_same m now next a b = record { matched = b.matched ∙ a.matched; channel = b.channel ∙ a.channel }
+
+pub same_purpose : (m now : Measure) → IsSameMeasurement m now → ◌≡◌ {A = Matched × ℕ} (now.matched, now.channel) (m.matched, m.channel)
+same_purpose m now same = rw (same.matched, same.channel) refl

@@ -1,0 +1,76 @@
+//! The replies that are a fault line.
+
+ghost use Rattle.std.specs.Prelude.{◌≡◌, ◌+◌, IfOk, string_bytes};
+ghost use Rattle.flk_text.specs.PlainText.{plain};
+ghost use Rattle.flk_top.specs.Faults.{configuration_line, match_line, data_line, range_line};
+
+use crate::matching::MatchFault;
+use crate::reply::Reply;
+use flk_cfg::CfgFault;
+use flk_dat::DatFault;
+use flk_text::{DecimalValue, push_decimal};
+use std::alloc::{AllocError, Global};
+
+/// The reply to the first fault of a configuration.
+pub fn configuration_reply(alloc: Global, fault: CfgFault) -> Result<Reply, AllocError>
+    ensures { IfOk result (λ r. (r.status ≡ 2) × (string_bytes r.text ≡ configuration_line fault.line fault.field fault.kind)) }
+{
+    let line = fault.line;
+    let field = fault.field;
+    let kind = fault.kind;
+    let text = format!(in alloc; "fault configuration {line} {field} {kind}\n")?;
+    Ok(Reply { status: 2, text })
+}
+
+// The plain text of a decimal.
+fn plain_text(alloc: Global, d: DecimalValue) -> Result<String, AllocError>
+    ensures { IfOk result (λ text. string_bytes text ≡ plain d.n) }
+{
+    let mut text = Vec::new(alloc);
+    push_decimal(&mut text, d)?;
+    Ok(String::from_utf8(text).unwrap())
+}
+
+fn match_text(alloc: Global, fault: MatchFault) -> Result<String, AllocError>
+    ensures { IfOk result (λ text. string_bytes text ≡ match_line fault) }
+{
+    match fault {
+        MatchFault::Channel { asked, there } => format!(in alloc;
+            "fault match 1 {asked} {there}\n"
+        ),
+        MatchFault::Unit { channel } => format!(in alloc; "fault match 2 {channel} 0\n"),
+        MatchFault::Scale { channel } => format!(in alloc; "fault match 3 {channel} 0\n"),
+        MatchFault::Lamp { lf } => {
+            let lf = plain_text(alloc, lf)?;
+            format!(in alloc; "fault match 4 0 {lf}\n")
+        }
+    }
+}
+
+/// The reply to a channel that can't be measured.
+pub fn match_reply(alloc: Global, fault: MatchFault) -> Result<Reply, AllocError>
+    ensures { IfOk result (λ r. (r.status ≡ 2) × (string_bytes r.text ≡ match_line fault)) }
+{
+    let text = match_text(alloc, fault)?;
+    Ok(Reply { status: 2, text })
+}
+
+/// The reply to the first fault of data.
+pub fn data_reply(alloc: Global, fault: DatFault) -> Result<Reply, AllocError>
+    ensures { IfOk result (λ r. (r.status ≡ 2) × (string_bytes r.text ≡ data_line fault.row fault.field fault.kind)) }
+{
+    let record = fault.row;
+    let field = fault.field;
+    let kind = fault.kind;
+    let text = format!(in alloc; "fault data {record} {field} {kind}\n")?;
+    Ok(Reply { status: 2, text })
+}
+
+/// The reply to a record, counted from 0, whose voltage in a channel is over range.
+pub fn range_reply(alloc: Global, place: u32, channel: u32) -> Result<Reply, AllocError>
+    ensures { IfOk result (λ r. (r.status ≡ 2) × (string_bytes r.text ≡ range_line (place + 1) channel)) }
+{
+    let row = u64::from(place) + 1;
+    let text = format!(in alloc; "fault range {row} {channel}\n")?;
+    Ok(Reply { status: 2, text })
+}
