@@ -7,9 +7,10 @@ Builds a small program over the crate in a temporary folder by `rt run`, which p
 half-periods (2,000,000 where nothing is said) of a window of 100, as intervals of 20 billionths: levels from 94 to 102 percent of
 nominal, each over 1000 half-periods and one in four of them with swings of 1 and 2 percent, and a noise of 0.1 percent. This is done
 once without doubt and once with six Doubtful flags, in six windows whose first and last value are about 4,000,000 billionths apart. Both
-programs find the flags by their own steps, and read a monotonic clock before and after the one call that is timed: `changes`, and the
-function of the plain program that does the same. So the time is that of the call alone. The script runs both programs RUNS times (5)
-in turn, compares what they print, and prints for each the least time, and the ratio."""
+programs find the flags by their own steps, and read the clock of the processor time that the process has used before and after the one
+call that is timed: `changes`, and the function of the plain program that does the same. So the time is that of the call alone, and other
+work on the machine counts little. The script runs both programs RUNS times (5) in turn, compares what they print, and prints for each
+the least time, and the ratio."""
 import sys
 import tempfile
 
@@ -21,7 +22,7 @@ PROGRAM = """//! Times `changes` on pseudo-random half-periods.
 use flk_change::{ChangeSummary, Flag, OutOfMemory, Steady, changes};
 use flk_num::Interval;
 use std::alloc::Global;
-use std::time::{Duration, Instant};
+use std::time::{CpuClock, Duration};
 use std::{env, io};
 
 fn next(state: u32) -> u32 {
@@ -101,9 +102,9 @@ fn timed(
         }
         flags.push(steady.push(*half))?;
     }
-    let start = Instant::now(rt)?;
+    let start = rt.process_cpu_time()?;
     let summary = changes(halves, &flags, window);
-    let time = start.elapsed(rt)?;
+    let time = rt.process_cpu_time()?.saturating_sub(start);
     Ok(Some((summary, time)))
 }
 

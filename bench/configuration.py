@@ -5,9 +5,9 @@
 
 Makes configurations of half and of all of that length in four shapes: `zeros` and `spaces`, 256 analog and 256 digital channels whose
 decimals have leading zeros or stand behind spaces; `tail`, the same channels with a tail of spaces; and `number`, one decimal over the
-whole length. Both programs read each of them RUNS times (40) in turn and must print the same. Printed are the least times of a process
-less that on the plainest configuration, for half and for all of the length, and the ratio of the latter. It builds the plain program
-by cargo, and needs the built program (`./flicker` builds it)."""
+whole length. Both programs read each of them RUNS times (40) in turn and must print the same. Printed are the least processor
+times less that on the plainest configuration, for half and for all of the length, and the ratio of the latter. It builds the plain
+program by cargo, and needs the built program (`./flicker` builds it)."""
 import os
 import sys
 import tempfile
@@ -49,16 +49,16 @@ SHAPES = {
 }
 
 
-def least_times(folder, programs, runs):
+def least_times(folder, both, runs):
     """The least time of each program on the configuration in the folder."""
-    least = [float("inf")] * len(programs)
+    least = [float("inf")] * len(both)
     for _ in range(runs):
         outs = []
-        for k, words in enumerate(programs):
+        for k, words in enumerate(both):
             seconds, _, out = programs.run(words, folder, status=2)
             least[k] = min(least[k], seconds)
             outs.append(out)
-        if outs != [b"fault match 2 1 0\n"] * len(programs):
+        if outs != [b"fault match 2 1 0\n"] * len(both):
             sys.exit("the programs print %s" % outs)
     return least
 
@@ -66,7 +66,7 @@ def least_times(folder, programs, runs):
 def main():
     runs = int(sys.argv[1]) if len(sys.argv) > 1 else 40
     with tempfile.TemporaryDirectory() as folder:
-        programs = [
+        both = [
             [programs.built(), "levels", "rec.cfg", "rec.dat", "1", "230000", "1"],
             [programs.plain(folder, "configuration"), "rec.cfg"],
         ]
@@ -74,7 +74,7 @@ def main():
         def timed(text):
             with open(os.path.join(folder, "rec.cfg"), "w", newline="") as f:
                 f.write(text)
-            return least_times(folder, programs, runs)
+            return least_times(folder, both, runs)
 
         start = timed("LAB,DAQ,1999\r\n1,1A,0D\r\n1,U,A,,t,1,0,0,-32767,32767,1,1,P\r\n" + REST)
         print("%d bytes, best of %d runs, milliseconds above a short configuration" % (MOST, runs))

@@ -5,7 +5,8 @@
 
 Builds a small program over the crate in a temporary folder by `rt run`, which proves it. Both programs push SAMPLES pseudo-random
 voltages (10,000,000 where nothing is said) with a mean square of about 1, as intervals of about 5e-11 of nominal, and print a checksum
-of all points. Runs both RUNS times (5) in turn, compares what they print, and prints for each the least time, and the ratio."""
+of all points. Runs both RUNS times (5) in turn, compares what they print, and prints for each the least processor
+time, and the ratio."""
 import sys
 import tempfile
 

@@ -9,16 +9,30 @@ TOP = os.path.dirname(os.path.dirname(os.path.abspath(__file__)))
 PLAIN = os.path.join(TOP, "bench", "plain")
 
 
+def peak_of(process):
+    """The peak so far of the memory of a running process, in MB; 0 where it has ended."""
+    try:
+        with open("/proc/%d/status" % process) as f:
+            return max((int(line.split()[1]) / 1000 for line in f if line.startswith("VmHWM:")), default=0)
+    except OSError:
+        return 0
+
+
 def run(words, folder=None, status=0):
-    """The seconds, the peak of memory in MB and the output of one run in a folder, which must end with a status."""
-    start = time.perf_counter()
+    """The seconds of processor time, the peak of memory in MB and the output (of at most 65,536 bytes) of one run in a folder, which
+    must end with a status. The memory is looked at every millisecond: what the system tells at the end counts that of this script."""
     child = subprocess.Popen(words, cwd=folder, stdout=subprocess.PIPE)
+    peak, ended = 0, 0
+    while ended == 0:
+        peak = max(peak, peak_of(child.pid))
+        time.sleep(0.001)
+        ended, code, usage = os.wait4(child.pid, os.WNOHANG)
     out = child.stdout.read()
-    _, ended, usage = os.wait4(child.pid, 0)
-    seconds = time.perf_counter() - start
-    if os.waitstatus_to_exitcode(ended) != status:
-        sys.exit("%s ended with %d: %s" % (words[0], ended, out))
-    return seconds, usage.ru_maxrss / 1000, out
+    child.stdout.close()
+    child.returncode = os.waitstatus_to_exitcode(code)
+    if child.returncode != status:
+        sys.exit("%s ended with %d: %s" % (words[0], child.returncode, out))
+    return usage.ru_utime + usage.ru_stime, peak, out
 
 
 def built():

@@ -6,9 +6,9 @@
 Makes three recordings in a temporary folder, one after the other: 20,000,000 BINARY records of one and of three voltages, and 2,000,000
 ASCII records of three. (With a SHARE, 1 where nothing is said, so many times as many.) The voltages have 220 V and 50 Hz, and
 amplitudes that swing by 2 percent; the samples come 2400 times a second. Both programs run both commands on each recording RUNS times
-(5) in turn and must print the same; `levels` measures the last channel. Printed are the least time of each and their ratio, and the
-greatest peak of memory of each, and before it that on a tenth of the records. It builds the plain program by cargo, and needs the built
-program (`./flicker` builds it)."""
+(5) in turn and must print the same; `levels` measures the last channel. Printed are the least processor time of each and their ratio,
+and the greatest peak of memory of each, and before it that on a tenth of the records. It builds the plain program by cargo, and needs
+the built program (`./flicker` builds it)."""
 import math
 import os
 import struct
