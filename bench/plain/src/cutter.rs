@@ -14,7 +14,8 @@ pub struct Cutter {
     pub extremes: Option<[u64; 4]>,
 }
 
-fn squares(lo: i64, hi: i64) -> (u128, u128) {
+/// The least and the greatest square of a number from `lo` to `hi`.
+pub fn squares(lo: i64, hi: i64) -> (u128, u128) {
     let first = u128::from(lo.unsigned_abs()) * u128::from(lo.unsigned_abs());
     let last = u128::from(hi.unsigned_abs()) * u128::from(hi.unsigned_abs());
     if lo > 0 {

@@ -1,6 +1,7 @@
 //! The adaptor and the squaring of pseudo-random voltages, in plain Rust with the same integer arithmetic: the yardstick of
 //! `bench/front.py`. It takes the number of samples, and prints a checksum of all points.
 
+use plain::cutter::squares;
 use std::env;
 
 const QUARTER: u128 = 1 << 62;
@@ -8,18 +9,6 @@ const QUARTER: u128 = 1 << 62;
 struct Front {
     low: u128,
     high: u128,
-}
-
-fn squares(lo: i64, hi: i64) -> (u128, u128) {
-    let first = u128::from(lo.unsigned_abs()) * u128::from(lo.unsigned_abs());
-    let last = u128::from(hi.unsigned_abs()) * u128::from(hi.unsigned_abs());
-    if lo > 0 {
-        (first, last)
-    } else if hi < 0 {
-        (last, first)
-    } else {
-        (0, first.max(last))
-    }
 }
 
 // `dividend / divisor`, rounded up: a division of 64 bits that is checked by a product, where the quotient is small.
