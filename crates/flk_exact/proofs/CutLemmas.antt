@@ -6,6 +6,7 @@ use Rattle.std.proofs.lemmas.Bool.{cases_lt, cases_eq, true≢false, false≢tru
 use Rattle.std.proofs.lemmas.List.{get_or_append_left}
 use Rattle.std.proofs.lemmas.List.Elements.{All-nil, All-cons, All-head, All-tail}
 use Rattle.flk_exact.specs.Cut.{Ends, IsNextCut, AreCutsFrom, AreCuts, parts_from, half_periods, last_cut_from, last_cut}
+use Rattle.flk_exact.proofs.WholeLemmas.{neither_less}
 use Rattle.flk_exact.proofs.ListLemmas.{AllZip-slice_range, slice_range-append}
 
 -- ---- the parts
@@ -174,11 +175,8 @@ cuts_onto half front (b ∷ back) c =
 pub cuts_exist : (half : ℕ) (negative : List Bool) → (cuts : List ℕ) × AreCuts half negative cuts
 cuts_exist half negative = cuts_onto half [] negative ([], AreCuts-none half)
 
-next_≤ : (half : ℕ) (negative : List Bool) (s p q : ℕ) → IsNextCut half negative s p → IsNextCut half negative s q → p ≤ q
-next_≤ half negative s p q h k = ⊎_elim (λ less. absurd (h.least q k.later less k.ends)) (λ most. most) (cases_lt q p)
-
 pub next_cut_unique : (half : ℕ) (negative : List Bool) (s p q : ℕ) → IsNextCut half negative s p → IsNextCut half negative s q → p ≡ q
-next_cut_unique half negative s p q h k = omega (arith, next_≤ half negative s p q h k, next_≤ half negative s q p k h)
+next_cut_unique half negative s p q h k = neither_less p q (λ less. k.least p h.later less h.ends) (λ less. h.least q k.later less k.ends)
 
 pub cuts_unique_from : (half : ℕ) (negative : List Bool) (s : ℕ) (ps qs : List ℕ) → AreCutsFrom half negative s ps → AreCutsFrom half negative s qs → ps ≡ qs
 cuts_unique_from half negative s [] [] h k = refl

@@ -1,4 +1,4 @@
--- The order of fractions.
+-- The order of fractions: of two one is at most the other, and two that are each at most the other are the same number.
 use Rattle.std.proofs.Common.{◌⊎◌, inl, inr, pos, ◌*ℤ◌, arith}
 use Rattle.std.specs.Prelude.{◌↔◌}
 use Rattle.std.proofs.lemmas.Int.{ints, by_lt_z}

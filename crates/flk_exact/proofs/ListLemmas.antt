@@ -1,9 +1,10 @@
--- Lists side by side.
-use Rattle.std.proofs.Common.{◌≡◌, ℕ, zero, suc, ◌-◌, ◌<◌, ◌≤◌, List, [], ◌∷◌, ◌++◌, length, take, drop, map, get_or, refl, arith, length-drop, ⊎_elim}
+-- Lists side by side, what a list made of another contains, and parts of a list that goes on.
+use Rattle.std.proofs.Common.{◌≡◌, ℕ, zero, suc, ◌-◌, ◌<◌, ◌≤◌, List, [], ◌∷◌, ◌++◌, length, take, drop, map, get_or, refl, sym, ap, ◌∙◌, arith, length-drop, ⊎_elim}
 use Rattle.std.specs.Prelude.{slice_range}
-use Rattle.std.specs.List.{AllZip}
+use Rattle.std.specs.List.{AllZip, Contains}
 use Rattle.std.proofs.lemmas.Bool.{cases_lt}
-use Rattle.std.proofs.lemmas.List.{take-append-le, drop-append-le}
+use Rattle.std.proofs.lemmas.List.{take-append-le, drop-append-le, length-map, get_or-map}
+use Rattle.std.proofs.lemmas.List.Elements.{Contains-get_or}
 
 pub AllZip-length : {A B : Type 0} (R : A → B → Type 0) (xs : List A) (ys : List B) → AllZip R xs ys → length xs ≡ length ys
 AllZip-length R [] [] h = refl
@@ -39,6 +40,14 @@ AllZip-append R [] us [] vs h k = k
 AllZip-append R [] us (y ∷ ys) vs h k = absurd h
 AllZip-append R (x ∷ xs) us [] vs h k = absurd h
 AllZip-append R (x ∷ xs) us (y ∷ ys) vs h k = (h.0, AllZip-append R xs us ys vs h.1 k)
+
+-- and back: what stands beside two lists, one after the other, has two parts
+pub AllZip-append_parts : {A B : Type 0} (R : A → B → Type 0) (xs us : List A) (ys : List B) → AllZip R (xs ++ us) ys → (front : List B) × (back : List B) × AllZip R xs front × AllZip R us back
+AllZip-append_parts R [] us ys h = ([], ys, tt, h)
+AllZip-append_parts R (x ∷ xs) us [] h = absurd h
+AllZip-append_parts R (x ∷ xs) us (y ∷ ys) h =
+    let rest = AllZip-append_parts R xs us ys h.1 in
+    (y ∷ rest.0, rest.1, (h.0, rest.2), rest.3)
 
 pub AllZip-get_or : {A B : Type 0} (R : A → B → Type 0) (xs : List A) (ys : List B) (i : ℕ) (d : A) (e : B) → AllZip R xs ys → i < length xs → R (get_or xs i d) (get_or ys i e)
 AllZip-get_or R [] ys i d e h low = absurd (omega arith)
@@ -107,6 +116,15 @@ AllZip-from_map R f [] [] h = tt
 AllZip-from_map R f [] (y ∷ ys) h = absurd h
 AllZip-from_map R f (x ∷ xs) [] h = absurd h
 AllZip-from_map R f (x ∷ xs) (y ∷ ys) h = (h.0, AllZip-from_map R f xs ys h.1)
+
+-- a list made of another contains what is made of the items, and nothing else
+pub Contains-map : {A B : Type 0} (f : A → B) (xs : List A) (x : A) → Contains xs x → Contains (map f xs) (f x)
+Contains-map f xs x h = (h.0, omega (arith, h.1, length-map xs f), get_or-map f xs h.0 x (f x) h.1 ∙ ap f h.2)
+
+pub Contains-from_map : {A B : Type 0} (f : A → B) (xs : List A) (z : B) (d : A) → Contains (map f xs) z → (x : A) × Contains xs x × (f x ≡ z)
+Contains-from_map f xs z d h =
+    let there : h.0 < length xs = omega (arith, h.1, length-map xs f) in
+    (get_or xs h.0 d, Contains-get_or xs h.0 d there, sym (get_or-map f xs h.0 d z there) ∙ h.2)
 
 -- a part of a list stays as it is where the list goes on
 pub slice_range-append : {A : Type 0} (s p : ℕ) (xs ys : List A) → p ≤ length xs → slice_range (xs ++ ys) s p ≡ slice_range xs s p

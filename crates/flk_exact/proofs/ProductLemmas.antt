@@ -1,4 +1,5 @@
--- Laws of products of whole numbers: linear arithmetic over them, in which a product is an unknown, rests on these.
+-- Laws of products of whole numbers: linear arithmetic over them, in which a product is an unknown, rests on these. And the sizes of sums
+-- and products.
 use Rattle.std.proofs.Common.{◌≡◌, ℕ, ◌+◌, ◌*◌, ◌≤◌, sym, ap, ◌∙◌, arith}
 use Rattle.std.proofs.Math.IntN.{ℤ, ◌+ℤ◌, ◌-ℤ◌, ◌*ℤ◌, neg_ℤ, *ℤ_comm}
 use Rattle.std.specs.Int.RustNames.{unsigned_abs}
@@ -57,9 +58,6 @@ sub_scaled k a b = distrib k a (neg_ℤ b) ∙ ap (λ (z : ℤ). k *ℤ a +ℤ z
 
 pub triangle : (a b : ℤ) → unsigned_abs (a +ℤ b) ≤ unsigned_abs a + unsigned_abs b
 triangle a b = omega (arith, ints)
-
-pub size_of_product : (a b : ℤ) → unsigned_abs (a *ℤ b) ≡ unsigned_abs a * unsigned_abs b
-size_of_product a b = unsigned_abs-mul a b
 
 pub size_of_product_within : (a b : ℤ) (m n : ℕ) → unsigned_abs a ≤ m → unsigned_abs b ≤ n → unsigned_abs (a *ℤ b) ≤ m * n
 size_of_product_within a b m n h k = omega (arith, unsigned_abs-mul a b, mul-le-mul_right (unsigned_abs b) h, mul-le-mul_left m k)

@@ -1,9 +1,11 @@
--- What quotients of whole numbers say of products, and that each rounding has one answer.
-use Rattle.std.proofs.Common.{◌≡◌, ℕ, ◌-◌, ◌%◌, ◌<◌, ℤ, pos, neg_ℤ, ◌+ℤ◌, ◌*ℤ◌, ◌≤ℤ◌, ◌<ℤ◌, refl, sym, ap, ◌∙◌, subst, arith}
+-- What quotients of whole numbers say of products: their rests, the whole numbers that are at most or at least a quotient, and that
+-- each rounding has one answer.
+use Rattle.std.proofs.Common.{◌≡◌, ℕ, ◌-◌, ◌%◌, ◌<◌, ℤ, pos, neg_ℤ, ◌+ℤ◌, ◌-ℤ◌, ◌*ℤ◌, ◌≤ℤ◌, ◌<ℤ◌, refl, sym, ◌∙◌, subst, arith}
 use Rattle.std.specs.Prelude.{negsuc, ◌↔◌}
 use Rattle.std.specs.Int.{int_rem_euclid}
+use Rattle.std.specs.Int.RustNames.{unsigned_abs}
 use Rattle.std.proofs.lemmas.Int.{ints, by_lt_z}
-use Rattle.std.proofs.Math.IntN.{neg_ℤ-neg_ℤ}
+use Rattle.std.proofs.Math.IntN.{neg_ℤ-neg_ℤ, *ℤ_comm}
 use Rattle.std.proofs.lemmas.Nat.{div-add-mod', mod_below}
 use Rattle.flk_exact.specs.Rounding.{floor_of, ceil_of, IsFloor, IsCeil}
 use Rattle.flk_exact.proofs.WholeLemmas.{sum-*ℤ, neg-*ℤ, scale_≤}
@@ -20,16 +22,25 @@ IsFloor-floor_of a b h =
     let p = floor_parts a b h in
     record { within = omega (arith, ints, p.1, p.3); greatest = omega (arith, ints, p.1, p.3) }
 
--- the floor is the only one
-floor_≤ : (a : ℤ) (b : ℕ) (p q : ℤ) → IsFloor a (pos b) p → IsFloor a (pos b) q → p ≤ℤ q
-floor_≤ a b p q x y =
-    by_lt_z q p
-    (λ above. let step : (q +ℤ pos 1) ≤ℤ p = omega (arith, ints) in
-    omega (arith, ints, scale_≤ (q +ℤ pos 1) p b step, sum-*ℤ q (pos 1) b, x.within, y.greatest))
-    (λ low. low)
+-- what is cut off is below the divisor
+pub floor_rest : (a : ℤ) (b : ℕ) (q : ℤ) → IsFloor a (pos b) q → (a ≡ pos b *ℤ q +ℤ pos (unsigned_abs (a -ℤ pos b *ℤ q))) × (unsigned_abs (a -ℤ pos b *ℤ q) < b)
+floor_rest a b q f =
+    let low : (q *ℤ pos b) ≤ℤ a = f.within in
+    let high : a <ℤ (q *ℤ pos b +ℤ pos b) = f.greatest in
+    let turned = *ℤ_comm q (pos b) in
+    (omega (arith, ints), omega (arith, ints))
 
+-- a whole number that is at most the quotient is at most its floor
+pub floor_at_least : (a : ℤ) (b : ℕ) (q z : ℤ) → IsFloor a (pos b) q → (z *ℤ pos b) ≤ℤ a → z ≤ℤ q
+floor_at_least a b q z f h =
+    by_lt_z q z
+    (λ above. let step : (q +ℤ pos 1) ≤ℤ z = omega (arith, ints) in
+    absurd (omega (arith, ints, scale_≤ (q +ℤ pos 1) z b step, sum-*ℤ q (pos 1) b, h, f.greatest)))
+    (λ within. within)
+
+-- the floor is the only one
 pub floor_unique : (a : ℤ) (b : ℕ) (p q : ℤ) → IsFloor a (pos b) p → IsFloor a (pos b) q → p ≡ q
-floor_unique a b p q x y = omega (arith, ints, floor_≤ a b p q x y, floor_≤ a b q p y x)
+floor_unique a b p q x y = omega (arith, ints, floor_at_least a b q p y x.within, floor_at_least a b p q x y.within)
 
 -- rounding up is rounding the negative down
 pub IsCeil-neg : (a : ℤ) (b : ℕ) (q : ℤ) → IsFloor (neg_ℤ a) (pos b) (neg_ℤ q) → IsCeil a (pos b) q
@@ -38,9 +49,22 @@ IsCeil-neg a b q h = record { within = omega (arith, ints, h.within, neg-*ℤ q 
 pub IsFloor-neg : (a : ℤ) (b : ℕ) (q : ℤ) → IsCeil a (pos b) q → IsFloor (neg_ℤ a) (pos b) (neg_ℤ q)
 IsFloor-neg a b q h = record { within = omega (arith, ints, h.within, neg-*ℤ q b); greatest = omega (arith, ints, h.least, neg-*ℤ q b) }
 
+pub IsCeil-ceil_of : (a : ℤ) (b : ℕ) → 0 < b → IsCeil a (pos b) (ceil_of a (pos b))
+IsCeil-ceil_of a b h =
+    IsCeil-neg a b (ceil_of a (pos b)) (subst (λ (p : ℤ). IsFloor (neg_ℤ a) (pos b) p) (sym (neg_ℤ-neg_ℤ (floor_of (neg_ℤ a) (pos b)))) (IsFloor-floor_of (neg_ℤ a) b h))
+
+-- a whole number that is at least the quotient is at least its ceiling
+pub ceil_at_most : (a : ℤ) (b : ℕ) (q z : ℤ) → IsCeil a (pos b) q → a ≤ℤ (z *ℤ pos b) → q ≤ℤ z
+ceil_at_most a b q z c h =
+    let low = floor_at_least (neg_ℤ a) b (neg_ℤ q) (neg_ℤ z) (IsFloor-neg a b q c) (omega (arith, ints, h, neg-*ℤ z b)) in
+    omega (arith, ints, low)
+
+-- the ceiling is the only one
+pub ceil_unique : (a : ℤ) (b : ℕ) (p q : ℤ) → IsCeil a (pos b) p → IsCeil a (pos b) q → p ≡ q
+ceil_unique a b p q x y = omega (arith, ints, ceil_at_most a b p q x y.within, ceil_at_most a b q p y x.within)
+
 pub ceil_is : (a : ℤ) (b : ℕ) (q : ℤ) → 0 < b → IsCeil a (pos b) q → q ≡ ceil_of a (pos b)
-ceil_is a b q h c =
-    omega (arith, ints, floor_unique (neg_ℤ a) b (neg_ℤ q) (floor_of (neg_ℤ a) (pos b)) (IsFloor-neg a b q c) (IsFloor-floor_of (neg_ℤ a) b h))
+ceil_is a b q h c = ceil_unique a b q (ceil_of a (pos b)) c (IsCeil-ceil_of a b h)
 
 -- rounding up, from the rounding down and the remainder
 pub IsCeil-whole : (a : ℤ) (b : ℕ) → 0 < b → int_rem_euclid a (pos b) ≡ pos 0 → IsCeil a (pos b) (floor_of a (pos b))
@@ -77,8 +101,7 @@ floor_of-at a (pos n) q h c = floor_unique a n q (floor_of a (pos n)) c (IsFloor
 floor_of-at a (negsuc n) q h c = absurd (omega (arith, ints))
 
 pub IsCeil-at : (a b q : ℤ) → pos 0 <ℤ b → q ≡ ceil_of a b → IsCeil a b q
-IsCeil-at a (pos n) q h e =
-    IsCeil-neg a n q (subst (λ (p : ℤ). IsFloor (neg_ℤ a) (pos n) p) (sym (ap neg_ℤ e ∙ neg_ℤ-neg_ℤ (floor_of (neg_ℤ a) (pos n)))) (IsFloor-floor_of (neg_ℤ a) n (omega (arith, ints))))
+IsCeil-at a (pos n) q h e = subst (λ (p : ℤ). IsCeil a (pos n) p) (sym e) (IsCeil-ceil_of a n (omega (arith, ints)))
 IsCeil-at a (negsuc n) q h e = absurd (omega (arith, ints))
 
 -- ---- the function and the bracket are one

@@ -1,22 +1,24 @@
--- Laws of whole numbers: products with natural numbers, orders, squares, and each as a difference of two natural numbers.
+-- Laws of whole numbers: products with natural numbers, orders, squares, two numbers of which neither is less, and each whole number
+-- as a difference of two natural ones.
 use Rattle.std.proofs.Common.{◌≡◌, ℕ, ◌+◌, ◌-◌, ◌*◌, ◌<◌, ◌≤◌, ℤ, pos, neg_ℤ, ◌+ℤ◌, ◌*ℤ◌, ◌≤ℤ◌, ◌<ℤ◌, refl, ap, ⊎_elim, arith}
 use Rattle.std.specs.Prelude.{negsuc}
 use Rattle.std.specs.Int.RustNames.{unsigned_abs}
 use Rattle.std.proofs.Math.Nat.{mul-le-mul_right}
 use Rattle.std.proofs.lemmas.Bool.{cases_lt}
 use Rattle.std.proofs.lemmas.Int.{ints, by_lt_z}
+use Rattle.flk_exact.proofs.ProductLemmas.{distrib_right, neg_right, mul_assoc}
 use borrow.Author.Differences.{up, down, sum_is_lem, product_is, neg_is, le_out, lt_out, same_in, at_most_in, below_in}
 
 -- a product with a natural number takes sums and negatives apart
 pub sum-*ℤ : (a b : ℤ) (c : ℕ) → (a +ℤ b) *ℤ pos c ≡ a *ℤ pos c +ℤ b *ℤ pos c
-sum-*ℤ a b c = omega (arith, ints, ap (λ n. n * c) (sum_is_lem a b))
+sum-*ℤ a b c = distrib_right a b (pos c)
 
 pub neg-*ℤ : (a : ℤ) (c : ℕ) → neg_ℤ a *ℤ pos c ≡ neg_ℤ (a *ℤ pos c)
-neg-*ℤ a c = omega (arith, ints, ap (λ n. n * c) (neg_is a).0, ap (λ n. n * c) (neg_is a).1)
+neg-*ℤ a c = neg_right a (pos c)
 
 -- a product with two natural numbers is one with their product
 pub assoc-*ℤ : (a : ℤ) (b c : ℕ) → (a *ℤ pos b) *ℤ pos c ≡ a *ℤ pos (b * c)
-assoc-*ℤ a b c = omega (arith, ints, ap (λ n. n * c) (product_is a (pos b)).0, ap (λ n. n * c) (product_is a (pos b)).1)
+assoc-*ℤ a b c = mul_assoc a (pos b) (pos c)
 
 -- a product with a natural number keeps the order, and one with a positive number keeps no other
 pub scale_≤ : (a b : ℤ) (c : ℕ) → a ≤ℤ b → (a *ℤ pos c) ≤ℤ (b *ℤ pos c)
@@ -33,6 +35,10 @@ cancel_≤ a b c some h =
 
 pub ≤ℤ_trans : {a b c : ℤ} → a ≤ℤ b → b ≤ℤ c → a ≤ℤ c
 ≤ℤ_trans h k = omega (arith, ints)
+
+-- two natural numbers of which neither is less are the same
+pub neither_less : (m n : ℕ) → (m < n → ⊥) → (n < m → ⊥) → m ≡ n
+neither_less m n f g = ⊎_elim (λ less. absurd (f less)) (λ most. ⊎_elim (λ less. absurd (g less)) (λ also. omega (arith, most, also)) (cases_lt n m)) (cases_lt m n)
 
 -- a square is that of the size
 pub square_is : (z : ℤ) → z *ℤ z ≡ pos (unsigned_abs z * unsigned_abs z)

@@ -1,5 +1,5 @@
 -- Where a recording is cut into half-periods. The cut reads the signs of the recorded samples alone, so every run has the
--- same cut. IEC 61000-3-3 judges r.m.s. values of half-periods; this rule of their ends is the project's own.
+-- same cut. IEC 61000-3-3, clause 3, judges r.m.s. values of half-periods; this rule of their ends is the project's own.
 use Rattle.std.specs.Prelude.{◌≡◌, ◌≢◌, ◌⊎◌, ℕ, ◌+◌, ◌-◌, ◌*◌, ◌<◌, ◌≤◌, Bool, false, List, [], ◌∷◌, length, slice_index_or, slice_range}
 
 -- The half-period that begins at sample s ends before sample p: after twice as many samples as half a nominal period has, or

@@ -1,5 +1,5 @@
 -- The value of a half-period of a run, in billionths of nominal: its r.m.s. voltage over half a nominal period, rounded down.
--- IEC 61000-3-3 judges voltage changes by such values.
+-- IEC 61000-3-3, clause 3, judges voltage changes by such values.
 use Rattle.std.specs.Prelude.{ℕ, ◌*◌, ◌^◌, List, [], ◌∷◌, ℤ, pos, ◌*ℤ◌, ◌≤ℤ◌}
 use Rattle.std.specs.List.{AllZip}
 use Rattle.flk_exact.specs.Fraction.{Fraction, ◌≤ℚ◌, ◌+ℚ◌, ◌*ℚ◌, whole}
