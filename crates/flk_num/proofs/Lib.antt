@@ -1,4 +1,5 @@
 pub mod SquareLemmas
+pub mod SizeLemmas
 pub mod ScaledLemmas
 pub mod RootLemmas
 pub mod QuotientLemmas

@@ -1,4 +1,4 @@
--- The order of rounded quotients.
+-- The order of rounded quotients: a lesser one rounded down is at most a greater one rounded up.
 use Rattle.std.proofs.Common.{ℕ, ◌+◌, ◌*◌, ◌<◌, ◌≤◌, ℤ, pos, ◌≤ℤ◌, ◌<ℤ◌, arith}
 use Rattle.std.specs.Prelude.{negsuc}
 use Rattle.std.proofs.Math.Nat.{mul-le-mul_left, mul-pos}

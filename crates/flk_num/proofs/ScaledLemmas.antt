@@ -1,4 +1,4 @@
--- A product of more than 128 bits, divided in pieces.
+-- A product of more than 128 bits, divided in pieces, and the quotient with its sign, rounded down and up.
 use Rattle.std.proofs.Common.{◌≡◌, ℕ, ◌+◌, ◌*◌, ◌^◌, ◌<◌, ℤ, pos, neg_ℤ, ◌*ℤ◌, ◌≤ℤ◌, ◌<ℤ◌, refl, sym, ap, ◌∙◌, subst, ⊎_elim, arith}
 use Rattle.std.specs.Prelude.{negsuc}
 use Rattle.std.specs.Int.RustNames.{unsigned_abs}

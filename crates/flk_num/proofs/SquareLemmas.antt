@@ -1,4 +1,4 @@
--- Squares and their order.
+-- Squares and their order, and the least and the greatest square of a number between two whole numbers.
 use Rattle.std.proofs.Common.{◌≡◌, suc, ◌*◌, ◌<◌, ◌≤◌, ℤ, pos, ◌*ℤ◌, ◌≤ℤ◌, ◌<ℤ◌, ◌-◌, ◌^◌, max, refl, sym, subst, ⊎_elim, arith}
 use Rattle.std.specs.Prelude.{negsuc}
 use Rattle.std.specs.Int.RustNames.{unsigned_abs}

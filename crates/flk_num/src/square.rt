@@ -12,7 +12,8 @@ fn square(x: i128) -> i128
     ensures value { result ≡ x *ℤ x }
     ensures natural { pos 0 ≤ℤ result }
 {
-    x * x
+    let x = x as i64;
+    i128::from(x) * i128::from(x)
 }
 
 /// The least and the greatest square of a whole number of the interval `v`, in squares of its unit. The ends of `v` are
