@@ -3,7 +3,8 @@ use Rattle.std.proofs.Common.{◌≡◌, ℕ, zero, ◌+◌, ◌*◌, ◌≤◌,
 use Rattle.std.proofs.Math.IntN.{ℤ, pos, ◌+ℤ◌, ◌*ℤ◌, neg_ℤ}
 use Rattle.std.specs.Int.RustNames.{unsigned_abs}
 use Rattle.std.proofs.Math.Nat.{mul-le-mul_left, mul-le-mul_right, le_of_mul-le-mul_left}
-use Rattle.flk_exact.proofs.ProductLemmas.{lin, triangle, size_of_product, size_of_product_within}
+use Rattle.std.proofs.lemmas.Int.{unsigned_abs-mul}
+use Rattle.flk_exact.proofs.ProductLemmas.{lin, triangle, size_of_product_within}
 
 pub five : (a b c d e : ℤ) → unsigned_abs (a +ℤ b +ℤ c +ℤ d +ℤ e) ≤ unsigned_abs a + unsigned_abs b + unsigned_abs c + unsigned_abs d + unsigned_abs e
 five a b c d e = omega (arith, triangle (a +ℤ b +ℤ c +ℤ d) e, triangle (a +ℤ b +ℤ c) d, triangle (a +ℤ b) c, triangle a b)
@@ -50,7 +51,7 @@ abs_identity p q t zn c z0 d z1 e ε f s id hs =
     let b1 = mul-le-mul_left p m2 in
     let same : unsigned_abs (pos q *ℤ t) ≡ unsigned_abs (pos q *ℤ zn +ℤ c *ℤ z0 +ℤ d *ℤ z1 +ℤ pos p *ℤ (e *ℤ ε) +ℤ pos p *ℤ f) = ap unsigned_abs id in
     let sum = five (pos q *ℤ zn) (c *ℤ z0) (d *ℤ z1) (pos p *ℤ (e *ℤ ε)) (pos p *ℤ f) in
-    omega (arith, same, sum, size_of_product (pos q) t, size_of_product (pos q) zn, size_of_product c z0, size_of_product d z1, size_of_product (pos p) (e *ℤ ε), size_of_product (pos p) f)
+    omega (arith, same, sum, unsigned_abs-mul (pos q) t, unsigned_abs-mul (pos q) zn, unsigned_abs-mul c z0, unsigned_abs-mul d z1, unsigned_abs-mul (pos p) (e *ℤ ε), unsigned_abs-mul (pos p) f)
 
 pub abs_neg : (a : ℤ) → unsigned_abs (neg_ℤ a) ≡ unsigned_abs a
 abs_neg a = omega (arith, lin)

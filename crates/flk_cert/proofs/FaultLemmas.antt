@@ -1,6 +1,7 @@
 -- The first fault of a certificate: there is at most one, and none where the certificate fits.
 use Rattle.std.proofs.Common.{◌≡◌, ℕ, zero, suc, ◌<◌, ◌≤◌, List, length, refl, sym, ap, subst, ◌∙◌, arith, ⊎_elim, inl, inr, Result, Ok, Err, IsErrOf, ◌↔◌}
 use Rattle.std.proofs.lemmas.Bool.{cases_lt}
+use Rattle.flk_exact.proofs.WholeLemmas.{neither_less}
 use Rattle.flk_cert.specs.declared.certificate.CertRow.{CertRow}
 use Rattle.flk_cert.specs.declared.coefs.Coefs.{Coefs}
 use Rattle.flk_cert.specs.declared.fault.Cause.{Cause}
@@ -26,17 +27,14 @@ earlier_row c d i j p h = record { is = inr (p, inl h) }
 earlier_number : (c d : Cause) (i j : ℕ) → pass c ≡ pass d → i ≡ j → cause_number c < cause_number d → IsEarlier c i d j
 earlier_number c d i j p e h = record { is = inr (p, inr (e, h)) }
 
-neither : (m n : ℕ) → (m < n → ⊥) → (n < m → ⊥) → m ≡ n
-neither m n f g = ⊎_elim (λ l. absurd (f l)) (λ le. ⊎_elim (λ l. absurd (g l)) (λ ge. omega (arith, le, ge)) (cases_lt n m)) (cases_lt m n)
-
 pub first_fault_unique : (k : Coefs) (rows : List CertRow) (c d : Cause) (i j : ℕ) → IsFirstFault k rows c i → IsFirstFault k rows d j → (i ≡ j) × (cause_number c ≡ cause_number d)
 first_fault_unique k rows c d i j f g =
     let p : pass c ≡ pass d =
-    neither (pass c) (pass d) (λ l. not_earlier k rows c d i j f g (earlier_pass c d i j l)) (λ l. not_earlier k rows d c j i g f (earlier_pass d c j i l)) in
+    neither_less (pass c) (pass d) (λ l. not_earlier k rows c d i j f g (earlier_pass c d i j l)) (λ l. not_earlier k rows d c j i g f (earlier_pass d c j i l)) in
     let e : i ≡ j =
-    neither i j (λ l. not_earlier k rows c d i j f g (earlier_row c d i j p l)) (λ l. not_earlier k rows d c j i g f (earlier_row d c j i (sym p) l)) in (
+    neither_less i j (λ l. not_earlier k rows c d i j f g (earlier_row c d i j p l)) (λ l. not_earlier k rows d c j i g f (earlier_row d c j i (sym p) l)) in (
       e,
-      neither (cause_number c) (cause_number d)
+      neither_less (cause_number c) (cause_number d)
           (λ l. not_earlier k rows c d i j f g (earlier_number c d i j p e l))
           (λ l. not_earlier k rows d c j i g f (earlier_number d c j i (sym p) (sym e) l)),
     )

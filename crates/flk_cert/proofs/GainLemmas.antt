@@ -3,11 +3,11 @@ use Rattle.std.proofs.Common.{◌≡◌, ℕ, ◌+◌, ◌*◌, ◌<◌, ◌≤�
 use Rattle.std.proofs.Math.IntN.{ℤ, pos, neg_ℤ, ◌+ℤ◌, ◌-ℤ◌, ◌*ℤ◌}
 use Rattle.std.specs.Prelude.{◌^◌, ◌≤ℤ◌, ◌<ℤ◌}
 use Rattle.std.specs.Int.RustNames.{unsigned_abs}
-use Rattle.std.proofs.lemmas.Int.{ints}
+use Rattle.std.proofs.lemmas.Int.{ints, unsigned_abs-mul}
 use Rattle.flk_exact.specs.Rounding.{ceil_of}
 use Rattle.flk_exact.proofs.RoundingLemmas.{IsCeil-at}
 use Rattle.flk_exact.proofs.WholeLemmas.{natural_is}
-use Rattle.flk_exact.proofs.ProductLemmas.{lin, size_of_product}
+use Rattle.flk_exact.proofs.ProductLemmas.{lin}
 use Rattle.flk_cert.specs.declared.certificate.CertRow.{CertRow}
 use Rattle.flk_cert.specs.declared.coefs.Coefs.{Coefs}
 use Rattle.flk_cert.specs.declared.gain.Gain.{Gain}
@@ -75,7 +75,7 @@ single_of k rows fits one =
     let next : IsInRange (row_at rows 1) = (fits Shape 1).range in
     let input = covers_natural r r.g (row_at rows 1).g (row_at rows 1).g (input_share k r.x r.y) r.g own.g next.g next.g own.g (fits Input 0 within) in
     let rounding = covers_natural r r.h (row_at rows 1).h (row_at rows 1).h (rounding_share k r.x r.y) r.h own.h next.h next.h own.h (fits Rounding 0 within) in
-    let c : unsigned_abs r.c ≡ 2 ^ 32 * unsigned_abs k.a1 = ap unsigned_abs id.0 ∙ abs_neg (pos (2 ^ 32) *ℤ k.a1) ∙ size_of_product (pos (2 ^ 32)) k.a1 in
+    let c : unsigned_abs r.c ≡ 2 ^ 32 * unsigned_abs k.a1 = ap unsigned_abs id.0 ∙ abs_neg (pos (2 ^ 32) *ℤ k.a1) ∙ unsigned_abs-mul (pos (2 ^ 32)) k.a1 in
     let u : ℤ = pos (2 ^ 32) *ℤ k.b1 -ℤ k.a1 *ℤ k.b0 in
     let w : ℤ = pos (2 ^ 32) *ℤ k.b2 -ℤ k.a2 *ℤ k.b0 in
     let x1 : r.x *ℤ u ≡ pos (2 ^ 32) *ℤ u = ap (λ (z : ℤ). z *ℤ u) zero.first in
@@ -85,7 +85,7 @@ single_of k rows fits one =
     let x2 : k.a1 *ℤ r.x ≡ k.a1 *ℤ pos (2 ^ 32) = ap (λ (z : ℤ). k.a1 *ℤ z) zero.first in
     let y2 : k.a2 *ℤ r.y ≡ pos 0 = ap (λ (z : ℤ). k.a2 *ℤ z) zero.second ∙ omega (arith, ints) in
     let f1 : k.a1 *ℤ r.x +ℤ k.a2 *ℤ r.y ≡ k.a1 *ℤ pos (2 ^ 32) = omega (arith, lin, x2, y2) in
-    let f : unsigned_abs (k.a1 *ℤ r.x +ℤ k.a2 *ℤ r.y) ≡ unsigned_abs k.a1 * 2 ^ 32 = ap unsigned_abs f1 ∙ size_of_product k.a1 (pos (2 ^ 32)) in
+    let f : unsigned_abs (k.a1 *ℤ r.x +ℤ k.a2 *ℤ r.y) ≡ unsigned_abs k.a1 * 2 ^ 32 = ap unsigned_abs f1 ∙ unsigned_abs-mul k.a1 (pos (2 ^ 32)) in
     let sx : unsigned_abs r.x ≡ 2 ^ 32 = ap unsigned_abs zero.first in
     let sy : unsigned_abs r.y ≡ 0 = ap unsigned_abs zero.second in
     let g1 : unsigned_abs r.c * unsigned_abs r.g ≡ 2 ^ 32 * unsigned_abs k.a1 * unsigned_abs r.g = ap (λ (n : ℕ). n * unsigned_abs r.g) c in
@@ -162,3 +162,13 @@ fits_keeps_second k rows fits from_one s xs ys Xs none =
 
 pub gain_bounds : (gain : Gain) → Bounds (coefs_of gain) (input_of gain) (rounding_of gain)
 gain_bounds gain = gain.bounds
+
+-- its numbers are not below 0, and the share of rounding is at most 2^29 units
+pub gain_input_natural : (gain : Gain) → pos 0 ≤ℤ input_of gain
+gain_input_natural gain = gain.input_natural
+
+pub gain_rounding_natural : (gain : Gain) → pos 0 ≤ℤ rounding_of gain
+gain_rounding_natural gain = gain.rounding_natural
+
+pub gain_rounding_small : (gain : Gain) → rounding_of gain ≤ℤ pos (2 ^ 29)
+gain_rounding_small gain = gain.rounding_small

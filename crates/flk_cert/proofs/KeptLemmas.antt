@@ -1,6 +1,6 @@
 -- The bounds of the errors hold after each sample: over lists of any length, by induction.
 use Rattle.std.proofs.Common.{◌≡◌, ℕ, ◌+◌, ◌*◌, ◌≤◌, Bool, true, false, List, [], ◌∷◌, refl, sym, ap, subst, ◌∙◌, arith}
-use Rattle.std.proofs.Math.IntN.{ℤ, pos, ◌+ℤ◌, ◌-ℤ◌, ◌*ℤ◌, neg_ℤ, *ℤ_comm}
+use Rattle.std.proofs.Math.IntN.{ℤ, pos, ◌+ℤ◌, ◌-ℤ◌, ◌*ℤ◌, neg_ℤ, *ℤ_comm, *ℤ-zero, zero-*ℤ}
 use Rattle.std.specs.Prelude.{◌^◌}
 use Rattle.std.specs.Int.RustNames.{unsigned_abs}
 use Rattle.std.proofs.lemmas.Int.{ints}
@@ -37,27 +37,21 @@ error_two delta k from_one ns ms Xs = held_two k (before from_one delta) ns ms -
 
 -- ---- before the first sample there is no error
 
-times_zero : (a : ℤ) → a *ℤ pos 0 ≡ pos 0
-times_zero a = omega (arith, ints)
-
-zero_times : (a : ℤ) → pos 0 *ℤ a ≡ pos 0
-zero_times a = omega (arith, ints)
-
 pub error_one_start : (delta : ℕ) (k : Coefs) (from_one : Bool) → MayStart k from_one → error_one delta k from_one [] [] [] ≡ pos 0
 error_one_start delta k false may =
-    let u : pos (delta * 2 ^ 48) *ℤ pos 0 ≡ pos 0 = times_zero (pos (delta * 2 ^ 48)) in
-    let b1 : k.b1 *ℤ (pos (delta * 2 ^ 48) *ℤ pos 0) ≡ pos 0 = ap (λ (z : ℤ). k.b1 *ℤ z) u ∙ times_zero k.b1 in
-    let b2 : k.b2 *ℤ (pos (delta * 2 ^ 48) *ℤ pos 0) ≡ pos 0 = ap (λ (z : ℤ). k.b2 *ℤ z) u ∙ times_zero k.b2 in
-    let a1 = times_zero k.a1 in
-    let a2 = times_zero k.a2 in
-    let s : pos delta *ℤ (pos (2 ^ 32) *ℤ pos 0) ≡ pos 0 = times_zero (pos delta) in
+    let u : pos (delta * 2 ^ 48) *ℤ pos 0 ≡ pos 0 = *ℤ-zero (pos (delta * 2 ^ 48)) in
+    let b1 : k.b1 *ℤ (pos (delta * 2 ^ 48) *ℤ pos 0) ≡ pos 0 = ap (λ (z : ℤ). k.b1 *ℤ z) u ∙ *ℤ-zero k.b1 in
+    let b2 : k.b2 *ℤ (pos (delta * 2 ^ 48) *ℤ pos 0) ≡ pos 0 = ap (λ (z : ℤ). k.b2 *ℤ z) u ∙ *ℤ-zero k.b2 in
+    let a1 = *ℤ-zero k.a1 in
+    let a2 = *ℤ-zero k.a2 in
+    let s : pos delta *ℤ (pos (2 ^ 32) *ℤ pos 0) ≡ pos 0 = *ℤ-zero (pos delta) in
     omega (arith, lin)
 error_one_start delta k true may =
     let u : ℤ = pos (delta * 2 ^ 48) *ℤ pos 1 in
     let b1 : k.b1 *ℤ u ≡ neg_ℤ (k.b0 *ℤ u) = ap (λ (z : ℤ). z *ℤ u) may.opposite ∙ neg_right k.b0 u in
-    let b2 : k.b2 *ℤ u ≡ pos 0 = ap (λ (z : ℤ). z *ℤ u) may.none ∙ zero_times u in
-    let a1 = times_zero k.a1 in
-    let a2 = times_zero k.a2 in
+    let b2 : k.b2 *ℤ u ≡ pos 0 = ap (λ (z : ℤ). z *ℤ u) may.none ∙ zero-*ℤ u in
+    let a1 = *ℤ-zero k.a1 in
+    let a2 = *ℤ-zero k.a2 in
     let c1 : pos (2 ^ 32) *ℤ neg_ℤ (pos 65536 *ℤ k.b0) ≡ neg_ℤ (pos (2 ^ 48) *ℤ k.b0) = omega (arith, ints) in
     let c2 : pos delta *ℤ (pos (2 ^ 32) *ℤ neg_ℤ (pos 65536 *ℤ k.b0)) ≡ neg_ℤ (pos delta *ℤ (pos (2 ^ 48) *ℤ k.b0)) =
     ap (λ (z : ℤ). pos delta *ℤ z) c1 ∙ distrib_neg (pos delta) (pos (2 ^ 48) *ℤ k.b0) in
@@ -68,22 +62,22 @@ error_one_start delta k true may =
 
 pub error_two_start : (delta : ℕ) (k : Coefs) (from_one : Bool) → MayStart k from_one → error_two delta k from_one [] [] [] ≡ pos 0
 error_two_start delta k false may =
-    let u : pos (delta * 2 ^ 48) *ℤ pos 0 ≡ pos 0 = times_zero (pos (delta * 2 ^ 48)) in
-    let b2 : k.b2 *ℤ (pos (delta * 2 ^ 48) *ℤ pos 0) ≡ pos 0 = ap (λ (z : ℤ). k.b2 *ℤ z) u ∙ times_zero k.b2 in
-    let a2 = times_zero k.a2 in
-    let s : pos delta *ℤ (pos (2 ^ 32) *ℤ pos 0) ≡ pos 0 = times_zero (pos delta) in
+    let u : pos (delta * 2 ^ 48) *ℤ pos 0 ≡ pos 0 = *ℤ-zero (pos (delta * 2 ^ 48)) in
+    let b2 : k.b2 *ℤ (pos (delta * 2 ^ 48) *ℤ pos 0) ≡ pos 0 = ap (λ (z : ℤ). k.b2 *ℤ z) u ∙ *ℤ-zero k.b2 in
+    let a2 = *ℤ-zero k.a2 in
+    let s : pos delta *ℤ (pos (2 ^ 32) *ℤ pos 0) ≡ pos 0 = *ℤ-zero (pos delta) in
     omega (arith, lin)
 error_two_start delta k true may =
     let u : ℤ = pos (delta * 2 ^ 48) *ℤ pos 1 in
-    let b2 : k.b2 *ℤ u ≡ pos 0 = ap (λ (z : ℤ). z *ℤ u) may.none ∙ zero_times u in
-    let a2 = times_zero k.a2 in
-    let s : pos delta *ℤ (pos (2 ^ 32) *ℤ pos 0) ≡ pos 0 = times_zero (pos delta) in
+    let b2 : k.b2 *ℤ u ≡ pos 0 = ap (λ (z : ℤ). z *ℤ u) may.none ∙ zero-*ℤ u in
+    let a2 = *ℤ-zero k.a2 in
+    let s : pos delta *ℤ (pos (2 ^ 32) *ℤ pos 0) ≡ pos 0 = *ℤ-zero (pos delta) in
     omega (arith, lin)
 
 no_error_bounded : (s delta : ℕ) (r : CertRow) → Bounded (2 ^ 32) s delta (pos 0) (pos 0) r
 no_error_bounded s delta r =
-    let x = times_zero r.x in
-    let y = times_zero r.y in
+    let x = *ℤ-zero r.x in
+    let y = *ℤ-zero r.y in
     let z : r.x *ℤ pos 0 +ℤ r.y *ℤ pos 0 ≡ pos 0 = omega (arith, lin) in
     record { within = subst (λ (e : ℤ). unsigned_abs e ≤ 2 ^ 32 * (unsigned_abs r.g * s + unsigned_abs r.h * delta)) (sym z) (omega arith) }
 
@@ -110,7 +104,7 @@ rows_kept k rows from_one s delta (n ∷ ns) (m ∷ ms) (X ∷ Xs) f may run nea
 -- ---- one row: the second state has no error
 
 product_zero : (k v : ℤ) → k ≡ pos 0 → product k v ≡ pos 0
-product_zero k v e = ap (λ (z : ℤ). floor_of z (pos (2 ^ 32))) (ap (λ (z : ℤ). z *ℤ v) e ∙ zero_times v)
+product_zero k v e = ap (λ (z : ℤ). floor_of z (pos (2 ^ 32))) (ap (λ (z : ℤ). z *ℤ v) e ∙ zero-*ℤ v)
 
 second_state_zero : (k : Coefs) (from_one : Bool) (Xs : List ℤ) → k.b2 ≡ pos 0 → k.a2 ≡ pos 0 → (state k from_one Xs).s2 ≡ pos 0
 second_state_zero k true [] b a = refl
@@ -123,9 +117,9 @@ second_state_zero k from_one (X ∷ Xs) b a =
 pub second_error_zero : (k : Coefs) (from_one : Bool) (delta : ℕ) (ns ms Xs : List ℤ) → k.b2 ≡ pos 0 → k.a2 ≡ pos 0 → error_two delta k from_one ns ms Xs ≡ pos 0
 second_error_zero k from_one delta ns ms Xs b a =
     let s = second_state_zero k from_one Xs b a in
-    let t : pos delta *ℤ (pos (2 ^ 32) *ℤ (state k from_one Xs).s2) ≡ pos 0 = ap (λ (z : ℤ). pos delta *ℤ (pos (2 ^ 32) *ℤ z)) s ∙ times_zero (pos delta) in
-    let p : k.b2 *ℤ newest (before from_one delta) ns ≡ pos 0 = ap (λ (z : ℤ). z *ℤ newest (before from_one delta) ns) b ∙ zero_times (newest (before from_one delta) ns) in
-    let q : k.a2 *ℤ newest (pos 0) ms ≡ pos 0 = ap (λ (z : ℤ). z *ℤ newest (pos 0) ms) a ∙ zero_times (newest (pos 0) ms) in
+    let t : pos delta *ℤ (pos (2 ^ 32) *ℤ (state k from_one Xs).s2) ≡ pos 0 = ap (λ (z : ℤ). pos delta *ℤ (pos (2 ^ 32) *ℤ z)) s ∙ *ℤ-zero (pos delta) in
+    let p : k.b2 *ℤ newest (before from_one delta) ns ≡ pos 0 = ap (λ (z : ℤ). z *ℤ newest (before from_one delta) ns) b ∙ zero-*ℤ (newest (before from_one delta) ns) in
+    let q : k.a2 *ℤ newest (pos 0) ms ≡ pos 0 = ap (λ (z : ℤ). z *ℤ newest (pos 0) ms) a ∙ zero-*ℤ (newest (pos 0) ms) in
     omega (arith, lin)
 
 pub row_kept : (k : Coefs) (g h : ℕ) (from_one : Bool) (s delta : ℕ) (ns ms Xs : List ℤ)

@@ -12,3 +12,5 @@ pub mod GainLemmas
 pub mod MakeLemmas
 pub mod MakeBounds
 pub mod MakeRows
+pub mod MadeCases
+pub mod FitCases

@@ -7,12 +7,9 @@ use Rattle.std.proofs.lemmas.List.Elements.{All-get_or}
 use Rattle.flk_exact.specs.Rounding.{ceil_of}
 use Rattle.flk_cert.specs.declared.coefs.Coefs.{Coefs}
 use Rattle.flk_cert.specs.declared.certificate.CertRow.{CertRow}
+use Rattle.flk_cert.specs.Certificate.{no_row}
 use Rattle.flk_cert.specs.Make.{weight, input_of, rounding_of, total_share, bound, bounded_by, IsNarrow}
 use Rattle.flk_cert.specs.Row.{IsWithin}
-
--- what a read past the end of the rows would give
-abbrev pub zero_row : CertRow
-zero_row = record { x = pos 0; y = pos 0; c = pos 0; d = pos 0; g = pos 0; h = pos 0 }
 
 pub total_share_step : (share : CertRow → ℕ) (rows : List CertRow) (i : ℕ) (d : CertRow) (p s : ℤ) → i < length rows → p ≡ ceil_of s (pos (2 ^ 64)) → s ≡ pos (share (get_or rows i d))
     → total_share share (drop i rows) ≡ p +ℤ total_share share (drop (i + 1) rows)
@@ -32,11 +29,11 @@ row_as_it_was k input rounding old rows i d low e =
     ap (λ xs. get_or xs i d) e ∙ get_or_append_left (take (i + 1) old) (bounded_by k input rounding (drop (i + 1) old)) d i (omega arith) ∙ get_or-take (i + 1) old i d (omega arith)
 
 -- and so it is narrow, where all were
-pub narrow_before : (k : Coefs) (input rounding : ℤ) (old rows : List CertRow) (left : ℕ) → 0 < left → left ≤ length old → rows ≡ take left old ++ bounded_by k input rounding (drop left old) → All IsNarrow old → IsNarrow (get_or rows (left - 1) zero_row)
+pub narrow_before : (k : Coefs) (input rounding : ℤ) (old rows : List CertRow) (left : ℕ) → 0 < left → left ≤ length old → rows ≡ take left old ++ bounded_by k input rounding (drop left old) → All IsNarrow old → IsNarrow (get_or rows (left - 1) no_row)
 narrow_before k input rounding old rows left some low e all =
     let next : left - 1 + 1 ≡ left = omega arith in
-    let h : IsNarrow (get_or old (left - 1) zero_row) = All-get_or IsNarrow old (left - 1) zero_row (omega arith) all in
-    rw (row_as_it_was k input rounding old rows (left - 1) zero_row (omega arith) (rw next e)) h
+    let h : IsNarrow (get_or old (left - 1) no_row) = All-get_or IsNarrow old (left - 1) no_row (omega arith) all in
+    rw (row_as_it_was k input rounding old rows (left - 1) no_row (omega arith) (rw next e)) h
 
 -- one row more has its bounds
 pub bounded_more : (k : Coefs) (input rounding : ℤ) (old rows : List CertRow) (i : ℕ) (d : CertRow) (g h : ℤ) (r : CertRow) → i < length old → rows ≡ take (i + 1) old ++ bounded_by k input rounding (drop (i + 1) old)

@@ -1,4 +1,4 @@
--- The numbers of the rows of a certificate that is made, and their ranges.
+-- The numbers of the rows of a certificate that is made, and their ranges; the least bound of one row; and that there is one certificate.
 use Rattle.std.proofs.Common.{◌≡◌, ℕ, ◌+◌, ◌-◌, ◌*◌, ◌^◌, ◌<◌, ◌≤◌, ℤ, pos, neg_ℤ, ◌+ℤ◌, ◌-ℤ◌, ◌*ℤ◌, ◌≤ℤ◌, ◌<ℤ◌, List, [], ◌∷◌, length, refl, sym, ap, ◌∙◌, ⊎_elim, inl, inr, arith}
 use Rattle.std.specs.Prelude.{◌⊎◌, sum_by}
 use Rattle.std.proofs.lemmas.Bool.{cases_lt}
@@ -8,29 +8,23 @@ use Rattle.std.proofs.Math.Nat.{mul-le-mul_right}
 use Rattle.std.specs.Int.{w128}
 use Rattle.std.specs.Int.RustNames.{FitsSigned}
 use mir.Val.{to_z, of_z}
-use borrow.Author.Differences.{lt_out}
-use Rattle.std.proofs.lemmas.Int.{ints, by_lt_z, unsigned_abs-mul}
-use Rattle.flk_exact.specs.Rounding.{floor_of, IsFloor, IsCeil}
-use Rattle.flk_exact.proofs.WholeLemmas.{sum-*ℤ, scale_≤, natural_is}
+use Rattle.std.proofs.lemmas.Int.{ints, unsigned_abs-mul}
+use Rattle.flk_exact.specs.Rounding.{floor_of, IsCeil}
+use Rattle.flk_exact.proofs.WholeLemmas.{natural_is, neither_less}
 use Rattle.flk_exact.proofs.ProductLemmas.{lin, distrib_right}
-use Rattle.flk_exact.proofs.RoundingLemmas.{IsFloor-at}
+use Rattle.flk_exact.proofs.RoundingLemmas.{IsFloor-at, floor_rest, ceil_at_most}
 use Rattle.flk_cert.specs.declared.coefs.Coefs.{Coefs}
 use Rattle.flk_cert.specs.declared.certificate.CertRow.{CertRow}
 use Rattle.flk_cert.specs.declared.row.Form.{Form}
 use Rattle.flk_cert.specs.Row.{fed_back}
 use Rattle.flk_cert.specs.Make.{next_form, inner_row, last_row, weight, input_of, rounding_of, rows_of, bounded, IsContracted, IsCount, IsFirstOrder, one_plain, IsOneBound, IsOneRow, IsMade}
 
-pub product_small : (z a b : ℤ) (m : ℕ) → z ≡ a *ℤ b → unsigned_abs a ≤ m → unsigned_abs z ≤ m * unsigned_abs b
-product_small z a b m e h = omega (arith, ap unsigned_abs e, unsigned_abs-mul a b, mul-le-mul_right (unsigned_abs b) h)
-
 pub fed_back_is : (z p r a x b y : ℤ) → z ≡ (pos 0 -ℤ p) -ℤ r → p ≡ a *ℤ x → r ≡ b *ℤ y → z ≡ neg_ℤ (a *ℤ x) -ℤ b *ℤ y
 fed_back_is z p r a x b y e f g = omega (arith, lin)
 
 -- a difference with the unit times its quotient rounded down is the remainder
 pub remainder_small : (z q : ℤ) → q ≡ floor_of z (pos (2 ^ 32)) → unsigned_abs (z -ℤ pos (2 ^ 32) *ℤ q) < 2 ^ 32
-remainder_small z q e =
-    let f : IsFloor z (pos (2 ^ 32)) q = IsFloor-at z (pos (2 ^ 32)) q (omega (arith, ints)) e in
-    omega (arith, ints, f.within, f.greatest)
+remainder_small z q e = (floor_rest z (2 ^ 32) q (IsFloor-at z (pos (2 ^ 32)) q (omega (arith, ints)) e)).1
 
 pub next_form_is : (k : Coefs) (f : Form) (z x y : ℤ) → z ≡ fed_back k f.x f.y → x ≡ floor_of z (pos (2 ^ 32)) → y ≡ f.x → record { x = x; y = y } ≡ next_form k f
 next_form_is k f z x y e g h = rw (h, g, e) refl
@@ -81,10 +75,7 @@ one_bound_at n m s g e some h =
     let parts : (z : ℤ) → pos (2 ^ 64) *ℤ z ≡ pos n *ℤ z +ℤ z *ℤ pos m =
     λ z. ap (λ (t : ℕ). pos t *ℤ z) (sym e) ∙ distrib_right (pos n) (pos m) z ∙ ap (λ y. pos n *ℤ z +ℤ y) (*ℤ_comm (pos m) z) in (
       omega (arith, lin, parts g, h.within),
-      λ z meets. by_lt_z z g
-          (λ below. let step : (z +ℤ pos 1) ≤ℤ g = omega (arith, ints) in
-          absurd (omega (arith, lin, lt_out, parts z, h.least, scale_≤ (z +ℤ pos 1) g m step, sum-*ℤ z (pos 1) m)))
-          (λ within. within),
+      λ z meets. ceil_at_most (pos s) m g z h (omega (arith, lin, parts z, meets)),
     )
 
 pub one_bound_is : (c share size g : ℤ) → size ≡ pos (unsigned_abs c) → pos 0 <ℤ (pos (2 ^ 64) -ℤ size) → pos 0 ≤ℤ share → IsCeil share (pos (2 ^ 64) -ℤ size) g → IsOneBound c (unsigned_abs share) g
@@ -130,14 +121,12 @@ one_row_unique k r s p q =
 -- ---- there is one certificate
 
 count_unique : (k : Coefs) (m n : ℕ) → IsCount k m → IsCount k n → m ≡ n
-count_unique k m n p q =
-    ⊎_elim (λ less. absurd (q.least m p.from_two less p.ends))
-    (λ most. ⊎_elim (λ less. absurd (p.least n q.from_two less q.ends)) (λ also. omega arith) (cases_lt n m)) (cases_lt m n)
+count_unique k m n p q = neither_less m n (λ less. q.least m p.from_two less p.ends) (λ less. p.least n q.from_two less q.ends)
 
 zero_cases : (z : ℤ) → (z ≡ pos 0) ⊎ (¬ (z ≡ pos 0))
 zero_cases z = ⊎_elim (λ more. inr (λ e. absurd (omega (arith, ints, e)))) (λ none. inl (omega (arith, ints))) (cases_lt 0 (unsigned_abs z))
 
-order_cases : (k : Coefs) → IsFirstOrder k ⊎ (¬ IsFirstOrder k)
+pub order_cases : (k : Coefs) → IsFirstOrder k ⊎ (¬ IsFirstOrder k)
 order_cases k =
     ⊎_elim
     (λ b. ⊎_elim (λ a. inl (record { b2 = b; a2 = a })) (λ no. inr (λ f. no f.a2)) (zero_cases k.a2))

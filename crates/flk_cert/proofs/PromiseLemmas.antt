@@ -1,14 +1,14 @@
 -- From bounds of numerators to those of fractions: what a gain promises.
-use Rattle.std.proofs.Common.{◌≡◌, ℕ, ◌+◌, ◌*◌, ◌≤◌, ◌<◌, Bool, List, [], ◌∷◌, map, ap, subst, ◌∙◌, arith}
+use Rattle.std.proofs.Common.{◌≡◌, ℕ, ◌+◌, ◌*◌, ◌≤◌, ◌<◌, Bool, List, [], ◌∷◌, ◌++◌, get_or, ap, subst, ◌∙◌, arith}
 use Rattle.std.proofs.Math.IntN.{ℤ, pos, ◌+ℤ◌, ◌-ℤ◌, ◌*ℤ◌, *ℤ_comm}
-use Rattle.std.specs.Prelude.{◌^◌, ◌≤ℤ◌, true, false}
+use Rattle.std.specs.Prelude.{◌^◌, true, false}
 use Rattle.std.specs.Int.RustNames.{unsigned_abs}
-use Rattle.std.proofs.Math.Nat.{mul-pos, mul_comm, mul-le-mul_right, le_of_mul-le-mul_left}
-use Rattle.std.proofs.lemmas.Int.{ints}
+use Rattle.std.proofs.Math.Nat.{mul-pos, mul-le-mul_right, le_of_mul-le-mul_left}
+use Rattle.std.proofs.lemmas.Int.{ints, unsigned_abs-mul}
 use Rattle.flk_exact.specs.Fraction.{Fraction, ◌≤ℚ◌, ◌+ℚ◌, ◌*ℚ◌, whole, units}
-use Rattle.flk_exact.proofs.WholeLemmas.{natural_is}
-use Rattle.flk_exact.proofs.ProductLemmas.{lin, triangle, size_of_product, size_of_product_within, mul_assoc}
-use Rattle.flk_exact.proofs.NumeratorLemmas.{IsOver, AllOver, over_own, over_grow, over_whole, over_units, over_sum, over_difference, over_times, over_size, same_over, over_at_most, at_most_over, all_over_grow, common}
+use Rattle.flk_exact.proofs.ProductLemmas.{lin, triangle, size_of_product_within, mul_assoc}
+use Rattle.flk_exact.proofs.ListLemmas.{AllZip-append_parts, AllZip-get_or}
+use Rattle.flk_exact.proofs.NumeratorLemmas.{IsOver, AllOver, over_grow, over_whole, over_units, over_sum, over_difference, over_times, over_size, same_over, over_at_most, at_most_over, natural_number, numerators}
 use Rattle.flk_cert.specs.declared.coefs.Coefs.{Coefs}
 use Rattle.flk_cert.specs.Section.{input_before, IsSection}
 use Rattle.flk_cert.specs.RoundedSection.{output, state}
@@ -29,10 +29,10 @@ pub out_bounded : (p s delta : ℕ) (b0 ε η e1 f0 : ℤ) (g h r : ℕ)
     → p * unsigned_abs η ≤ (unsigned_abs b0 + g) * s + p * r * delta
 out_bounded p s delta b0 ε η e1 f0 g h r hp e he hf h1 hr =
     let within = h1.within in
-    let a : unsigned_abs e1 ≤ g * s + h * delta = le_of_mul-le-mul_left {k = p} (omega (arith, size_of_product (pos p) e1)) hp in
+    let a : unsigned_abs e1 ≤ g * s + h * delta = le_of_mul-le-mul_left {k = p} (omega (arith, unsigned_abs-mul (pos p) e1)) hp in
     let b : unsigned_abs (b0 *ℤ ε) ≤ unsigned_abs b0 * s = size_of_product_within b0 ε _ _ (omega arith) he in
     let c = mul-le-mul_right delta hr in
-    omega (arith, ap unsigned_abs e, size_of_product (pos p) η, triangle (b0 *ℤ ε +ℤ e1) f0, triangle (b0 *ℤ ε) e1, c)
+    omega (arith, ap unsigned_abs e, unsigned_abs-mul (pos p) η, triangle (b0 *ℤ ε +ℤ e1) f0, triangle (b0 *ℤ ε) e1, c)
 
 -- ---- a common denominator, in which one unit is delta
 
@@ -48,27 +48,21 @@ record Shared (s : Fraction) (xs ys : List Fraction) : Type 0 where
 
 shared : (s : Fraction) (xs ys : List Fraction) → whole (pos 0) ≤ℚ s → Shared s xs ys
 shared s xs ys natural =
-    let cx = common xs in
-    let cy = common ys in
-    let both : ℕ = cx.delta * cy.delta in
-    let some : 0 < both = mul-pos cx.positive cy.positive in
-    let ax = all_over_grow both s.den xs _ (all_over_grow cx.delta cy.delta xs cx.numerators cx.over) in
-    let by : AllOver both ys (map (λ z. z *ℤ pos cx.delta) cy.numerators) =
-    subst (λ (d : ℕ). AllOver d ys (map (λ z. z *ℤ pos cx.delta) cy.numerators)) (mul_comm cy.delta cx.delta) (all_over_grow cy.delta cx.delta ys cy.numerators cy.over) in
-    let ay = all_over_grow both s.den ys _ by in
-    let above : pos 0 ≤ℤ s.num = omega (arith, ints, natural.cross) in
-    let own : IsOver (both * s.den) s (s.num *ℤ pos both) = subst (λ (d : ℕ). IsOver d s (s.num *ℤ pos both)) (mul_comm s.den both) (over_grow s.den both s s.num (over_own s)) in
-    let doubt : ℕ = unsigned_abs s.num * both in
-    let is : IsOver (both * s.den) s (pos doubt) = subst (λ (z : ℤ). IsOver (both * s.den) s z) (ap (λ (z : ℤ). z *ℤ pos both) (natural_is s.num above)) own in
+    let k = numerators (xs ++ (ys ++ s ∷ [])) in
+    let scale : ℕ = k.base * 2 ^ 48 in
+    let front = AllZip-append_parts (IsOver scale) xs (ys ++ s ∷ []) k.numbers k.over in
+    let back = AllZip-append_parts (IsOver scale) ys (s ∷ []) front.1 front.3 in
+    let own : IsOver scale s (get_or back.1 0 (pos 0)) = AllZip-get_or (IsOver scale) (s ∷ []) back.1 0 s (pos 0) back.3 (omega arith) in
+    let doubt = natural_number scale s _ (omega (arith, ints, natural.cross)) own in
     record {
-      delta = both * s.den;
-      positive = mul-pos some s.positive;
-      doubt = doubt * 2 ^ 48;
-      inputs = map (λ z. z *ℤ pos (2 ^ 48)) _;
-      outputs = map (λ z. z *ℤ pos (2 ^ 48)) _;
-      doubt_over = over_grow (both * s.den) (2 ^ 48) s (pos doubt) is;
-      inputs_over = all_over_grow (both * s.den) (2 ^ 48) xs _ ax;
-      outputs_over = all_over_grow (both * s.den) (2 ^ 48) ys _ ay;
+      delta = k.base;
+      positive = k.some;
+      doubt = doubt.number;
+      inputs = front.0;
+      outputs = back.0;
+      doubt_over = doubt.over;
+      inputs_over = front.2;
+      outputs_over = back.2;
     }
 
 pub over_before : (delta : ℕ) (from_one : Bool) → IsOver (delta * 2 ^ 48) (input_before from_one) (before from_one delta)

@@ -1,13 +1,12 @@
 -- Runs of a section as whole numbers: the numerators of exact values over one common denominator.
 use Rattle.std.proofs.Common.{◌≡◌, ℕ, ◌*◌, ◌<◌, Bool, List, [], ◌∷◌, refl, subst, ◌∙◌, arith}
 use Rattle.std.proofs.Math.IntN.{ℤ, pos, ◌+ℤ◌, ◌-ℤ◌, ◌*ℤ◌, *ℤ_comm}
-use Rattle.std.specs.Prelude.{◌^◌, ◌≤ℤ◌, ◌<ℤ◌}
+use Rattle.std.specs.Prelude.{◌^◌}
 use Rattle.std.specs.Int.RustNames.{unsigned_abs}
 use Rattle.std.proofs.Math.Nat.{mul_comm, mul-pos}
 use Rattle.std.proofs.lemmas.Int.{ints}
 use Rattle.flk_exact.specs.Fraction.{Fraction, ◌+ℚ◌, ◌-ℚ◌, ◌*ℚ◌}
-use Rattle.flk_exact.specs.Rounding.{IsFloor}
-use Rattle.flk_exact.proofs.RoundingLemmas.{IsFloor-floor_of}
+use Rattle.flk_exact.proofs.RoundingLemmas.{IsFloor-floor_of, floor_rest}
 use Rattle.flk_exact.proofs.ProductLemmas.{lin}
 use Rattle.flk_exact.proofs.NumeratorLemmas.{IsOver, AllOver, over_own, over_grow, over_sum, over_difference, over_product, over_same}
 use Rattle.flk_cert.specs.declared.coefs.Coefs.{Coefs}
@@ -109,16 +108,9 @@ to_numerators delta k from_one un (x ∷ xs) (y ∷ ys) (n ∷ ns) (m ∷ ms) hd
 abbrev pub lost_of : ℤ → ℤ → ℕ
 lost_of k v = unsigned_abs (k *ℤ v -ℤ pos (2 ^ 32) *ℤ product k v)
 
-bracket : (a m : ℤ) (p : ℕ) → IsFloor a (pos p) m → (a ≡ pos p *ℤ m +ℤ pos (unsigned_abs (a -ℤ pos p *ℤ m))) × (unsigned_abs (a -ℤ pos p *ℤ m) < p)
-bracket a m p f =
-    let w : (m *ℤ pos p) ≤ℤ a = f.within in
-    let g : a <ℤ (m *ℤ pos p +ℤ pos p) = f.greatest in
-    let c = *ℤ_comm m (pos p) in
-    (omega (arith, ints), omega (arith, ints))
-
 pub product_rounded : (k v : ℤ) → Rounded (2 ^ 32) k v (product k v) (lost_of k v)
 product_rounded k v =
-    let b = bracket (k *ℤ v) (product k v) (2 ^ 32) (IsFloor-floor_of (k *ℤ v) (2 ^ 32) (omega arith)) in
+    let b = floor_rest (k *ℤ v) (2 ^ 32) (product k v) (IsFloor-floor_of (k *ℤ v) (2 ^ 32) (omega arith)) in
     record { same = b.0; less = b.1 }
 
 pub sample : (k : Coefs) (u n m : ℤ) (ns ms : List ℤ) (g : State) (X : ℤ)

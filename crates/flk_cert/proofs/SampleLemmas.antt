@@ -3,8 +3,8 @@ use Rattle.std.proofs.Common.{◌≡◌, ℕ, ◌*◌, ◌≤◌, ◌<◌, ap, �
 use Rattle.std.proofs.Math.IntN.{ℤ, pos, ◌+ℤ◌, ◌-ℤ◌, ◌*ℤ◌}
 use Rattle.std.specs.Int.RustNames.{unsigned_abs}
 use Rattle.std.proofs.Math.Nat.{mul-le-mul_left}
-use Rattle.std.proofs.lemmas.Int.{ints}
-use Rattle.flk_exact.proofs.ProductLemmas.{lin, distrib, left_comm, sub_scaled, size_of_product}
+use Rattle.std.proofs.lemmas.Int.{ints, unsigned_abs-mul}
+use Rattle.flk_exact.proofs.ProductLemmas.{lin, distrib, left_comm, sub_scaled}
 use Rattle.flk_cert.specs.declared.coefs.Coefs.{Coefs}
 use Rattle.flk_cert.proofs.StepLemmas.{Moves}
 
@@ -32,7 +32,7 @@ pub record Sample (p : ℕ) (k : Coefs) (x y t1 t2 t1' t2' : ℤ) (X Y S1 S2 S1'
   pub p4 : Rounded p k.a2 Y m4 n4
 
 lost : (p delta n : ℕ) → n < p → unsigned_abs (pos delta *ℤ pos n) ≤ p * delta
-lost p delta n h = let a : n ≤ p = omega arith in omega (arith, size_of_product (pos delta) (pos n), mul-le-mul_left delta a)
+lost p delta n h = let a : n ≤ p = omega arith in omega (arith, unsigned_abs-mul (pos delta) (pos n), mul-le-mul_left delta a)
 
 lost_two : (p delta n m : ℕ) → n < p → m < p → unsigned_abs (pos delta *ℤ pos n -ℤ pos delta *ℤ pos m) ≤ p * delta
 lost_two p delta n m h j = let a : n ≤ p = omega arith in let b : m ≤ p = omega arith in omega (arith, ints, mul-le-mul_left delta a, mul-le-mul_left delta b)

@@ -1,12 +1,14 @@
 -- For each list of inputs there is one list of outputs.
-use Rattle.std.proofs.Common.{◌≡◌, ℕ, ◌*◌, ◌<◌, Bool, List, [], ◌∷◌, map, refl, sym, ap, subst, ◌∙◌, arith}
+use Rattle.std.proofs.Common.{◌≡◌, ℕ, ◌*◌, ◌<◌, Bool, List, [], ◌∷◌, ◌++◌, refl, sym, ap, subst, ◌∙◌, arith}
 use Rattle.std.proofs.Math.IntN.{ℤ, pos, ◌+ℤ◌, ◌*ℤ◌}
 use Rattle.std.specs.Prelude.{◌^◌}
 use Rattle.std.specs.List.{AllZip}
-use Rattle.std.proofs.Math.Nat.{mul-pos, mul_comm}
+use Rattle.std.proofs.Math.Nat.{mul-pos}
 use Rattle.std.proofs.lemmas.Int.{ints}
 use Rattle.flk_exact.specs.Fraction.{Fraction, ◌≈ℚ◌}
-use Rattle.flk_exact.proofs.NumeratorLemmas.{AllOver, same_over, all_over_grow, common}
+use Rattle.flk_exact.proofs.ListLemmas.{AllZip-append_parts}
+use Rattle.flk_exact.proofs.ProductLemmas.{swap}
+use Rattle.flk_exact.proofs.NumeratorLemmas.{IsOver, AllOver, cancel_≡, same_over, numerators}
 use Rattle.flk_cert.specs.declared.coefs.Coefs.{Coefs}
 use Rattle.flk_cert.specs.Section.{IsSection}
 use Rattle.flk_cert.proofs.RunLemmas.{IsWholeSection, held_one, sum_of, to_numerators}
@@ -39,27 +41,39 @@ all_same delta [] (z ∷ zs) [] hd hy hz = absurd hz
 all_same delta (y ∷ ys) [] (m ∷ ms) hd hy hz = absurd hz
 all_same delta (y ∷ ys) (z ∷ zs) (m ∷ ms) hd hy hz = (same_over delta y z m hd hy.0 hz.0, all_same delta ys zs ms hd hy.1 hz.1)
 
+-- fractions of one value have one numerator
+over_alike : (delta : ℕ) (f g : Fraction) (n : ℤ) → f ≈ℚ g → IsOver delta f n → IsOver delta g n
+over_alike delta f g n e h =
+    let a : (g.num *ℤ pos delta) *ℤ pos f.den ≡ (n *ℤ pos g.den) *ℤ pos f.den =
+    swap g.num (pos delta) (pos f.den) ∙ ap (λ (z : ℤ). z *ℤ pos delta) (sym e.cross) ∙ swap f.num (pos g.den) (pos delta) ∙ ap (λ (z : ℤ). z *ℤ pos g.den) h.is
+    ∙ swap n (pos f.den) (pos g.den) in
+    record { is = cancel_≡ _ _ f.den f.positive a }
+
+all_over_alike : (delta : ℕ) (xs us : List Fraction) (ns : List ℤ) → AllZip (λ x u. x ≈ℚ u) xs us → AllOver delta xs ns → AllOver delta us ns
+all_over_alike delta [] [] ns e h = h
+all_over_alike delta [] (u ∷ us) ns e h = absurd e
+all_over_alike delta (x ∷ xs) [] ns e h = absurd e
+all_over_alike delta (x ∷ xs) (u ∷ us) [] e h = absurd h
+all_over_alike delta (x ∷ xs) (u ∷ us) (n ∷ ns) e h = (over_alike delta x u n e.0 h.0, all_over_alike delta xs us ns e.1 h.1)
+
+-- inputs of one value have outputs of one value
+pub outputs_alike : (k : Coefs) (from_one : Bool) (xs us ys zs : List Fraction) → AllZip (λ x u. x ≈ℚ u) xs us → IsSection k from_one xs ys → IsSection k from_one us zs
+    → AllZip (λ y z. y ≈ℚ z) ys zs
+outputs_alike k from_one xs us ys zs e h j =
+    let fs = numerators (xs ++ (ys ++ zs)) in
+    let scale : ℕ = fs.base * 2 ^ 48 in
+    let some : 0 < scale = mul-pos fs.some (omega arith) in
+    let front = AllZip-append_parts (IsOver scale) xs (ys ++ zs) fs.numbers fs.over in
+    let back = AllZip-append_parts (IsOver scale) ys zs front.1 front.3 in
+    let u = before from_one fs.base in
+    let first = to_numerators scale k from_one u xs ys _ _ some (over_before fs.base from_one) front.2 back.2 h in
+    let second = to_numerators scale k from_one u us zs _ _ some (over_before fs.base from_one) (all_over_alike scale xs us _ e front.2) back.3 j in
+    let one = whole_outputs_unique k u _ _ _ first second in
+    all_same scale ys zs _ some back.2 (subst (λ (ms : List ℤ). AllOver scale zs ms) (sym one) back.3)
+
+pub all_alike : (xs : List Fraction) → AllZip (λ x u. x ≈ℚ u) xs xs
+all_alike [] = tt
+all_alike (x ∷ xs) = (record { cross = refl }, all_alike xs)
+
 pub outputs_unique : (k : Coefs) (from_one : Bool) (xs ys zs : List Fraction) → IsSection k from_one xs ys → IsSection k from_one xs zs → AllZip (λ y z. y ≈ℚ z) ys zs
-outputs_unique k from_one xs ys zs h j =
-    let cx = common xs in
-    let cy = common ys in
-    let cz = common zs in
-    let yz : ℕ = cy.delta * cz.delta in
-    let delta : ℕ = cx.delta * yz in
-    let some : 0 < yz = mul-pos cy.positive cz.positive in
-    let scale : 0 < delta * 2 ^ 48 = mul-pos (mul-pos cx.positive some) (omega arith) in
-    let ax = all_over_grow delta (2 ^ 48) xs _ (all_over_grow cx.delta yz xs cx.numerators cx.over) in
-    let ay0 = all_over_grow cy.delta cz.delta ys cy.numerators cy.over in
-    let az0 : AllOver yz zs (map (λ w. w *ℤ pos cy.delta) cz.numerators) =
-    subst (λ (d : ℕ). AllOver d zs (map (λ w. w *ℤ pos cy.delta) cz.numerators)) (mul_comm cz.delta cy.delta) (all_over_grow cz.delta cy.delta zs cz.numerators cz.over) in
-    let ay1 : AllOver delta ys (map (λ w. w *ℤ pos cx.delta) (map (λ w. w *ℤ pos cz.delta) cy.numerators)) =
-    subst (λ (d : ℕ). AllOver d ys (map (λ w. w *ℤ pos cx.delta) (map (λ w. w *ℤ pos cz.delta) cy.numerators))) (mul_comm yz cx.delta) (all_over_grow yz cx.delta ys _ ay0) in
-    let az1 : AllOver delta zs (map (λ w. w *ℤ pos cx.delta) (map (λ w. w *ℤ pos cy.delta) cz.numerators)) =
-    subst (λ (d : ℕ). AllOver d zs (map (λ w. w *ℤ pos cx.delta) (map (λ w. w *ℤ pos cy.delta) cz.numerators))) (mul_comm yz cx.delta) (all_over_grow yz cx.delta zs _ az0) in
-    let ay = all_over_grow delta (2 ^ 48) ys _ ay1 in
-    let az = all_over_grow delta (2 ^ 48) zs _ az1 in
-    let u = before from_one delta in
-    let hm = to_numerators (delta * 2 ^ 48) k from_one u xs ys _ _ scale (over_before delta from_one) ax ay h in
-    let hl = to_numerators (delta * 2 ^ 48) k from_one u xs zs _ _ scale (over_before delta from_one) ax az j in
-    let one = whole_outputs_unique k u _ _ _ hm hl in
-    all_same (delta * 2 ^ 48) ys zs _ scale ay (subst (λ (ms : List ℤ). AllOver (delta * 2 ^ 48) zs ms) (sym one) az)
+outputs_unique k from_one xs ys zs h j = outputs_alike k from_one xs xs ys zs (all_alike xs) h j

@@ -3,10 +3,10 @@ use Rattle.std.proofs.Common.{◌≡◌, ℕ, ◌+◌, ◌*◌, ◌≤◌, ◌<�
 use Rattle.std.proofs.Math.IntN.{ℤ, pos, ◌+ℤ◌, ◌-ℤ◌, ◌*ℤ◌, neg_ℤ}
 use Rattle.std.specs.Int.RustNames.{unsigned_abs}
 use Rattle.std.proofs.Math.Nat.{mul-pos, mul-le-mul_left}
-use Rattle.std.proofs.lemmas.Int.{ints}
+use Rattle.std.proofs.lemmas.Int.{ints, unsigned_abs-mul}
 use Rattle.std.proofs.lemmas.Bool.{cases_lt}
 use Rattle.std.proofs.lemmas.List.{get_or_past}
-use Rattle.flk_exact.proofs.ProductLemmas.{lin, neg_right, triangle, size_of_product, size_of_product_within}
+use Rattle.flk_exact.proofs.ProductLemmas.{lin, neg_right, triangle, size_of_product_within}
 use Rattle.flk_cert.specs.declared.certificate.CertRow.{CertRow}
 use Rattle.flk_cert.specs.declared.coefs.Coefs.{Coefs}
 use Rattle.flk_cert.specs.Certificate.{no_row, row_at}
@@ -153,7 +153,7 @@ one_row_step p s delta k g h ε η e1 e2 e1' e2' f0 f12 f34 hp m none v z0 =
     omega (
       arith,
       ap unsigned_abs t1,
-      size_of_product k.a1 e1,
+      unsigned_abs-mul k.a1 e1,
       abs_neg (k.a1 *ℤ e1),
       abs_neg (k.a1 *ℤ f0),
       triangle (u *ℤ ε -ℤ k.a1 *ℤ e1 -ℤ k.a1 *ℤ f0) (pos p *ℤ f12),
@@ -161,8 +161,8 @@ one_row_step p s delta k g h ε η e1 e2 e1' e2' f0 f12 f34 hp m none v z0 =
       triangle (u *ℤ ε) (neg_ℤ (k.a1 *ℤ e1)),
     ) in
     let w2 = mul-le-mul_left (p * p) w in
-    let e : unsigned_abs (pos p *ℤ u) ≡ p * unsigned_abs u = size_of_product (pos p) u in
-    let y : unsigned_abs (pos p *ℤ e1) ≡ p * unsigned_abs e1 = size_of_product (pos p) e1 in
+    let e : unsigned_abs (pos p *ℤ u) ≡ p * unsigned_abs u = unsigned_abs-mul (pos p) u in
+    let y : unsigned_abs (pos p *ℤ e1) ≡ p * unsigned_abs e1 = unsigned_abs-mul (pos p) e1 in
     let y2 : p * unsigned_abs k.a1 * unsigned_abs (pos p *ℤ e1) ≡ p * unsigned_abs k.a1 * (p * unsigned_abs e1) = ap (λ (m : ℕ). p * unsigned_abs k.a1 * m) y in
     let y3 : p * (unsigned_abs (pos p *ℤ u) * s) ≡ p * (p * unsigned_abs u * s) = ap (λ (m : ℕ). p * (m * s)) e in
     record {

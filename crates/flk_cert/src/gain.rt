@@ -27,6 +27,7 @@ fn rounding_gain(h: i128) -> i128
     requires { IsBound h }
     ensures value { result ≡ pos 1 +ℤ ceil_of h (pos (2 ^ 32)) }
     ensures natural { pos 0 ≤ℤ result }
+    ensures small { result ≤ℤ pos (2 ^ 29) }
 {
     1 + ceil_div(h, TWO_TO_32)
 }
@@ -45,6 +46,7 @@ pub struct Gain {
     second_rounding: i128,
     ghost input_natural: { pos 0 ≤ℤ input },
     ghost rounding_natural: { pos 0 ≤ℤ rounding },
+    ghost rounding_small: { rounding ≤ℤ pos (2 ^ 29) },
     ghost bounds: { Bounds coefs input rounding },
     ghost bounds_first: { BoundsFirst coefs first_input first_rounding },
     ghost bounds_second: { BoundsSecond coefs second_input second_rounding },
@@ -87,10 +89,11 @@ impl Gain {
         self.input
     }
 
-    /// The share of rounding, in units of 2^-48.
+    /// The share of rounding, in units of 2^-48: at most 2^29.
     pub fn rounding(&self) -> i128
         ensures value { result ≡ rounding_of self.now }
         ensures natural { pos 0 ≤ℤ result }
+        ensures small { result ≤ℤ pos (2 ^ 29) }
     {
         self.rounding
     }

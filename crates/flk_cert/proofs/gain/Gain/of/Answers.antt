@@ -1,4 +1,4 @@
-use Rattle.std.proofs.Common.{rules, ◌≡◌, ℤ, pos, ◌+ℤ◌, ◌≤ℤ◌, ◌^◌, FitsSigned, to_z, of_z, sym, subst}
+use Rattle.std.proofs.Common.{rules, ◌≡◌, ℤ, pos, ◌+ℤ◌, ◌≤ℤ◌, ◌^◌, FitsSigned, to_z, of_z, refl, sym, subst}
 use Rattle.std.specs.Int.{w128}
 use Rattle.std.specs.Int.RustNames.{unsigned_abs}
 use Rattle.std.proofs.lemmas.Int.{to_z-of_z}
@@ -51,8 +51,28 @@ invariant_of-result c =
     record {
       input_natural = held (λ i r. pos 0 ≤ℤ i) input rounding fi fr c.input_gain.ensures.natural;
       rounding_natural = held (λ i r. pos 0 ≤ℤ r) input rounding fi fr c.rounding_gain.ensures.natural;
+      rounding_small = held (λ i r. r ≤ℤ pos (2 ^ 29)) input rounding fi fr c.rounding_gain.ensures.small;
       bounds = held (λ i r. Bounds k i r) input rounding fi fr (fits_bounds k rows input rounding fits ei er);
       bounds_first = held (λ g h. BoundsFirst k g h) first.g first.h f0 f1 of_first;
       bounds_second = held (λ g h. BoundsSecond k g h) second.g second.h f2 f3 of_second;
       keeps_second = held (λ g h. KeepsSecond k h) second.g second.h f2 f3 kept;
+    }
+
+pub returns : goal.returns
+returns c =
+    let k = c.args.k.now in
+    let rows = c.args.rows.now in
+    let input = c.input_gain.result in
+    let rounding = c.rounding_gain.result in
+    let first = c.row_at-first.result in
+    let vi : input ≡ pos (unsigned_abs k.b0) +ℤ first.g = search rules in
+    let vr : rounding ≡ pos 1 +ℤ ceil_of first.h (pos (2 ^ 32)) = search rules in
+    let ei : input ≡ pos (unsigned_abs k.b0) +ℤ (row_at rows 0).g = subst (λ (r : CertRow). input ≡ pos (unsigned_abs k.b0) +ℤ r.g) c.row_at-first.ensures vi in
+    let er : rounding ≡ pos 1 +ℤ ceil_of (row_at rows 0).h (pos (2 ^ 32)) = subst (λ (r : CertRow). rounding ≡ pos 1 +ℤ ceil_of r.h (pos (2 ^ 32))) c.row_at-first.ensures vr in
+    let fi : FitsSigned w128 input = search rules in
+    let fr : FitsSigned w128 rounding = search rules in
+    record {
+      coefs = refl;
+      input = held (λ i r. i ≡ pos (unsigned_abs k.b0) +ℤ (row_at rows 0).g) input rounding fi fr ei;
+      rounding = held (λ i r. r ≡ pos 1 +ℤ ceil_of (row_at rows 0).h (pos (2 ^ 32))) input rounding fi fr er;
     }
