@@ -1,3 +1,4 @@
 mod Computed
 mod NearestLemmas
 pub mod DesignLemmas
+pub mod DesignCases

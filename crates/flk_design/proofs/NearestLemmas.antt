@@ -4,6 +4,7 @@ use Rattle.flk_exact.specs.Fraction.{Fraction, whole}
 use Rattle.flk_exact.specs.Rounding.{floor_of, IsFloor}
 use Rattle.flk_exact.proofs.WholeLemmas.{atom, nat, plus_is, minus_is, times_is, at_most, from_at_most, below, from_below}
 use Rattle.flk_exact.proofs.RoundingLemmas.{IsFloor-floor_of, floor_unique}
+use Rattle.std.specs.Int.RustNames.{unsigned_abs}
 use Rattle.std.proofs.Math.Nat.{mul-pos}
 use Rattle.std.proofs.lemmas.Int.{ints}
 use Rattle.flk_design.specs.Nearest.{◌<ℚ◌, IsNearestQuotient}
@@ -48,17 +49,21 @@ nearest_of_floor p d e some k more f = record {
   };
 }
 
-nearest_exists-at : (p : Fraction) (num : ℤ) (e : ℕ) (some : 0 < e) → whole (pos 0) <ℚ record { num = num; den = e; positive = some }
-    → (k : ℤ) × IsNearestQuotient p (record { num = num; den = e; positive = some }) k
-nearest_exists-at p (pos zero) e some more = absurd (omega (arith, ints, more.cross))
-nearest_exists-at p (pos (suc d)) e some more =
+-- the quotient and a half, rounded down, of a divisor above 0
+abbrev pub nearest_of : Fraction → Fraction → ℤ
+nearest_of p q = floor_of (scaled p q.den +ℤ pos (divisor p (unsigned_abs q.num))) (pos (2 * divisor p (unsigned_abs q.num)))
+
+nearest_is-at : (p : Fraction) (num : ℤ) (e : ℕ) (some : 0 < e) → whole (pos 0) <ℚ record { num = num; den = e; positive = some }
+    → IsNearestQuotient p (record { num = num; den = e; positive = some }) (nearest_of p (record { num = num; den = e; positive = some }))
+nearest_is-at p (pos zero) e some more = absurd (omega (arith, ints, more.cross))
+nearest_is-at p (pos (suc d)) e some more =
     let a = scaled p e +ℤ pos (divisor p (suc d)) in
-    let b = 2 * divisor p (suc d) in (
-      floor_of a (pos b),
-      nearest_of_floor p (suc d) e some (floor_of a (pos b)) (omega arith)
-          (IsFloor-floor_of a b (mul-pos (lit< tt) (mul-pos (omega arith) p.positive))),
-    )
-nearest_exists-at p (negsuc d) e some more = absurd (omega (arith, ints, more.cross))
+    let b = 2 * divisor p (suc d) in
+    nearest_of_floor p (suc d) e some (floor_of a (pos b)) (omega arith) (IsFloor-floor_of a b (mul-pos (lit< tt) (mul-pos (omega arith) p.positive)))
+nearest_is-at p (negsuc d) e some more = absurd (omega (arith, ints, more.cross))
+
+pub nearest_is : (p q : Fraction) → whole (pos 0) <ℚ q → IsNearestQuotient p q (nearest_of p q)
+nearest_is p q more = nearest_is-at p q.num q.den q.positive more
 
 pub nearest_exists : (p q : Fraction) → whole (pos 0) <ℚ q → (k : ℤ) × IsNearestQuotient p q k
-nearest_exists p q more = nearest_exists-at p q.num q.den q.positive more
+nearest_exists p q more = (nearest_of p q, nearest_is p q more)
