@@ -21,6 +21,12 @@ All steady n gives x = (c : Change) × IsChange steady n c × gives c x
 abbrev pub Closed : (ℕ → Type 0) → ℕ → (Change → ℤ → Type 0) → ℤ → Type 0
 Closed steady n gives x = (c : Change) × IsClosed steady n c × gives c x
 
+-- before the first half-period none is over
+pub none_closed : (steady : ℕ → Type 0) (c : Change) → IsClosed steady 0 c → ⊥
+none_closed steady (between j k) s = absurd (omega (arith, s.2, s.3))
+none_closed steady (after j) s = s
+none_closed steady whole s = s
+
 more_closed : (steady : ℕ → Type 0) (n : ℕ) (c : Change) → IsClosed steady n c → IsClosed steady (n + 1) c
 more_closed steady n (between j k) s = (s.0, s.1, s.2, omega (arith, s.3), s.4)
 more_closed steady n (after j) s = absurd s

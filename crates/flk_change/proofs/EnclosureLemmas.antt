@@ -8,7 +8,7 @@ use Rattle.std.proofs.lemmas.List.{length-map, get_or_default}
 use Rattle.std.proofs.lemmas.List.FromFn.{length-map-range_with_len, get_or-map-range_with_len}
 use Rattle.std.proofs.lemmas.List.Elements.{All-contains, All-tail, Contains-append_left, Contains-append_right}
 use Rattle.flk_exact.specs.Rounding.{IsBetween}
-use Rattle.flk_exact.proofs.ListLemmas.{AllZip-length, AllZip-get_or, AllZip-from_get_or}
+use Rattle.flk_exact.proofs.ListLemmas.{AllZip-length, AllZip-get_or, AllZip-from_get_or, Contains-map}
 use Rattle.flk_num.specs.declared.interval.Interval.{Interval}
 use Rattle.flk_change.specs.declared.flag.Flag.{Flag}
 use Rattle.flk_change.specs.declared.flag.Flag.TheVariants.{Early}
@@ -21,7 +21,7 @@ use Rattle.flk_change.proofs.SwingLemmas.{distance_natural, least_natural, great
 use Rattle.flk_change.proofs.LevelLemmas.{level-≤, level-above, level-below}
 use Rattle.flk_change.proofs.SumLemmas.{ends_ordered}
 use Rattle.flk_change.proofs.ValueLemmas.{held_above, held_below, cases_steady, flag_allows}
-use Rattle.flk_change.proofs.WideLemmas.{lows_below, contains_map}
+use Rattle.flk_change.proofs.WideLemmas.{lows_below}
 use Rattle.flk_change.proofs.QuantityLemmas.{Follows, quantity_exists, quantity_≤, quantity_same, stop_within}
 
 -- ---- each quantity exists
@@ -263,8 +263,8 @@ wide_dmax window halves dc dmax t some h = λ values m held is.
     let wide : (h.greatest -ℤ h.least) ≤ℤ dmax.hi = bound 0 (pos 0) (omega arith) in
     let away : ℤ → ℤ = λ z. distance z (pos 1000000000) in
     let rest = All-tail (λ z. z ≤ℤ dmax.hi) (h.greatest -ℤ h.least) (map away (lows halves ++ highs halves)) bound in
-    let at_low = All-contains (λ z. z ≤ℤ dmax.hi) (map away (lows halves ++ highs halves)) (away h.least) rest (contains_map away (lows halves ++ highs halves) h.least (Contains-append_left (lows halves) (highs halves) h.least h.is_least.among)) in
-    let at_high = All-contains (λ z. z ≤ℤ dmax.hi) (map away (lows halves ++ highs halves)) (away h.greatest) rest (contains_map away (lows halves ++ highs halves) h.greatest (Contains-append_right (lows halves) (highs halves) h.greatest h.is_greatest.among)) in
+    let at_low = All-contains (λ z. z ≤ℤ dmax.hi) (map away (lows halves ++ highs halves)) (away h.least) rest (Contains-map away (lows halves ++ highs halves) h.least (Contains-append_left (lows halves) (highs halves) h.least h.is_least.among)) in
+    let at_high = All-contains (λ z. z ≤ℤ dmax.hi) (map away (lows halves ++ highs halves)) (away h.greatest) rest (Contains-map away (lows halves ++ highs halves) h.greatest (Contains-append_right (lows halves) (highs halves) h.greatest h.is_greatest.among)) in
     let far : (z : ℤ) → h.least ≤ℤ z → z ≤ℤ h.greatest → distance z (pos 1000000000) ≤ℤ dmax.hi = λ z a b. between_far z h.least h.greatest dmax.hi a b at_low at_high in
     let natural : pos 0 ≤ℤ dmax.hi = omega (arith, ints, at_low, distance_natural h.least (pos 1000000000)) in
     record {

@@ -3,14 +3,14 @@ use Rattle.std.proofs.Common.{◌≡◌, inl, inr, ℕ, ◌<◌, List, length, g
 use Rattle.std.specs.Int.{int_min, int_max}
 use Rattle.std.specs.List.{Contains, fold}
 use Rattle.std.proofs.lemmas.Int.{ints, fold-int_max_bounds, fold-int_max_reached, fold-int_min_bounds, fold-int_min_reached}
-use Rattle.std.proofs.lemmas.List.{length-map, at_drop_all}
+use Rattle.std.proofs.lemmas.List.{at_drop_all}
 use Rattle.std.proofs.lemmas.List.Folds.{fold-map}
-use Rattle.std.proofs.lemmas.List.Elements.{Contains-get_or, All-contains}
+use Rattle.std.proofs.lemmas.List.Elements.{All-contains}
 use Rattle.flk_exact.specs.Extreme.{IsLeast, IsGreatest}
+use Rattle.flk_exact.proofs.ListLemmas.{Contains-map, Contains-from_map}
 use Rattle.flk_num.specs.declared.interval.Interval.{Interval}
 use Rattle.flk_change.specs.Values.{lows, highs}
 use Rattle.flk_change.specs.Extremes.{least_low, greatest_low, least_high, greatest_high}
-use Rattle.flk_change.proofs.SumLemmas.{lows-get_or, highs-get_or}
 
 least_of : (xs : List ℤ) (a r : ℤ) → r ≡ fold int_min a xs → Contains xs a → IsLeast xs r
 least_of xs a r e there = record {
@@ -26,16 +26,10 @@ greatest_of xs a r e there = record {
 
 -- a half-period of the list has its ends among the ends
 pub low_there : (halves : List Interval) (v : Interval) → Contains halves v → Contains (lows halves) v.lo
-low_there halves v h =
-    let i = h.0 in
-    let at : get_or (lows halves) i v.lo ≡ v.lo = lows-get_or halves i v v.lo h.1 ∙ ap (λ (u : Interval). u.lo) h.2 in
-    (i, omega (arith, h.1, length-map halves (λ (u : Interval). u.lo)), at)
+low_there halves v h = Contains-map (λ (u : Interval). u.lo) halves v h
 
 pub high_there : (halves : List Interval) (v : Interval) → Contains halves v → Contains (highs halves) v.hi
-high_there halves v h =
-    let i = h.0 in
-    let at : get_or (highs halves) i v.hi ≡ v.hi = highs-get_or halves i v v.hi h.1 ∙ ap (λ (u : Interval). u.hi) h.2 in
-    (i, omega (arith, h.1, length-map halves (λ (u : Interval). u.hi)), at)
+high_there halves v h = Contains-map (λ (u : Interval). u.hi) halves v h
 
 pub least_low_is : (halves : List Interval) (v : Interval) (r : ℤ) → r ≡ least_low v.lo halves → Contains halves v → IsLeast (lows halves) r
 least_low_is halves v r e there = least_of (lows halves) v.lo r (e ∙ sym (fold-map int_min (λ (h : Interval). h.lo) v.lo halves)) (low_there halves v there)
@@ -51,18 +45,10 @@ greatest_high_is halves v r e there = greatest_of (highs halves) v.hi r (e ∙ s
 
 -- the ends at which they are reached, by the half-period
 pub low_owner : (halves : List Interval) (z : ℤ) → Contains (lows halves) z → (v : Interval) × Contains halves v × (v.lo ≡ z)
-low_owner halves z h =
-    let i = h.0 in
-    let d : Interval = record { lo = z; hi = z; ordered = omega (arith, ints) } in
-    let there : i < length halves = omega (arith, h.1, length-map halves (λ (u : Interval). u.lo)) in
-    (get_or halves i d, Contains-get_or halves i d there, sym (lows-get_or halves i d z there) ∙ h.2)
+low_owner halves z h = Contains-from_map (λ (u : Interval). u.lo) halves z (record { lo = z; hi = z; ordered = omega (arith, ints) }) h
 
 pub high_owner : (halves : List Interval) (z : ℤ) → Contains (highs halves) z → (v : Interval) × Contains halves v × (v.hi ≡ z)
-high_owner halves z h =
-    let i = h.0 in
-    let d : Interval = record { lo = z; hi = z; ordered = omega (arith, ints) } in
-    let there : i < length halves = omega (arith, h.1, length-map halves (λ (u : Interval). u.hi)) in
-    (get_or halves i d, Contains-get_or halves i d there, sym (highs-get_or halves i d z there) ∙ h.2)
+high_owner halves z h = Contains-from_map (λ (u : Interval). u.hi) halves z (record { lo = z; hi = z; ordered = omega (arith, ints) }) h
 
 -- ---- a walk over a list that begins with its first half-period
 

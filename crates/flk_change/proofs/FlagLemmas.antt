@@ -1,5 +1,5 @@
 -- Flags: what the extremes of a window tell, what the newest half-periods are, and that flags stay as the half-periods go on.
-use Rattle.std.proofs.Common.{◌≡◌, inl, inr, ℕ, ◌+◌, ◌-◌, ◌<◌, ◌≤◌, List, [], ◌∷◌, ◌++◌, length, take, drop, get_or, ℤ, pos, ◌-ℤ◌, ◌<ℤ◌, ◌≤ℤ◌, refl, sym, ap, ◌∙◌, arith, length-append, length-drop, length-take, ⊎_elim}
+use Rattle.std.proofs.Common.{◌≡◌, inl, inr, ℕ, ◌+◌, ◌-◌, ◌<◌, ◌≤◌, List, [], ◌∷◌, ◌++◌, length, take, drop, get_or, ℤ, pos, ◌-ℤ◌, ◌<ℤ◌, ◌≤ℤ◌, refl, sym, ap, ◌∙◌, arith, length-append, length-drop, ⊎_elim}
 use Rattle.std.specs.List.{All, Contains}
 use Rattle.std.specs.Prelude.{◌↔◌}
 use Rattle.std.proofs.lemmas.Int.{ints, by_lt_z}
@@ -17,6 +17,7 @@ use Rattle.flk_change.specs.declared.extremes.Extremes.{Extremes}
 use Rattle.flk_change.specs.Values.{lows, highs, IsInRange}
 use Rattle.flk_change.specs.Steady.{window_at, AreSurelyClose, AreSurelyApart, IsFlag, AreFlags}
 use Rattle.flk_change.specs.Extremes.{IsFlagOfExtremes, AreSmall, least_low, greatest_low, least_high, greatest_high}
+use Rattle.flk_change.proofs.LevelLemmas.{length-window_at}
 use Rattle.flk_change.proofs.SumLemmas.{lows-natural, lows-small, highs-natural, highs-small}
 use Rattle.flk_change.proofs.ExtremeLemmas.{least_low_is, greatest_low_is, least_high_is, greatest_high_is, low_there, high_there, low_owner, high_owner}
 
@@ -106,16 +107,13 @@ flag_unique window halves j Doubtful Sure h k = absurd (h.1 k.1)
 flag_unique window halves j Doubtful Not h k = absurd (h.2 k.1)
 flag_unique window halves j Doubtful Doubtful h k = refl
 
-whole_window : (window j : ℕ) (halves : List Interval) → window ≤ j → j ≤ length halves → length (window_at window halves j) ≡ window
-whole_window window j halves whole there = omega (arith, length-take (j - (j - window)) (drop (j - window) halves), length-drop (j - window) halves)
-
 pub flag_exists : (window : ℕ) (halves : List Interval) (j : ℕ) → 0 < window → j ≤ length halves → (f : Flag) × IsFlag window halves j f
 flag_exists window halves j some there =
     ⊎_elim
     (λ early. (Early, early))
     (λ whole.
     let part = window_at window halves j in
-    let full = whole_window window j halves whole there in
+    let full = length-window_at window j halves whole there in
     let lows_some : 0 < length (lows part) = omega (arith, full, length-map part (λ (h : Interval). h.lo)) in
     let highs_some : 0 < length (highs part) = omega (arith, full, length-map part (λ (h : Interval). h.hi)) in
     let gh = greatest_exists (highs part) highs_some in

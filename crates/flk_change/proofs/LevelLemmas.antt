@@ -1,14 +1,14 @@
 -- Sums of windows and levels: how a window slides, and how levels follow the order, the width and the bounds of the values.
-use Rattle.std.proofs.Common.{◌≡◌, ℕ, ◌+◌, ◌-◌, ◌*◌, ◌<◌, ◌≤◌, List, [], ◌∷◌, ◌++◌, length, take, drop, get_or, ℤ, pos, ◌+ℤ◌, ◌-ℤ◌, ◌*ℤ◌, ◌≤ℤ◌, ap, ◌∙◌, arith, length-take, length-drop, take-add}
+use Rattle.std.proofs.Common.{◌≡◌, ℕ, ◌+◌, ◌-◌, ◌*◌, ◌<◌, ◌≤◌, List, [], ◌∷◌, ◌++◌, length, take, drop, get_or, ℤ, pos, neg_ℤ, ◌+ℤ◌, ◌-ℤ◌, ◌*ℤ◌, ◌≤ℤ◌, ap, ◌∙◌, arith, length-take, length-drop, take-add}
 use Rattle.std.specs.Prelude.{slice_range}
 use Rattle.std.specs.List.{All, AllZip}
-use Rattle.std.proofs.lemmas.Int.{ints, by_lt_z}
+use Rattle.std.proofs.lemmas.Int.{ints}
 use Rattle.std.proofs.lemmas.List.{take_more}
 use Rattle.std.proofs.lemmas.List.Elements.{All-head, All-tail, All-take, All-drop}
 use Rattle.flk_exact.specs.Rounding.{floor_of}
 use Rattle.flk_exact.proofs.ListLemmas.{AllZip-slice_range}
-use Rattle.flk_exact.proofs.RoundingLemmas.{IsFloor-floor_of}
-use Rattle.flk_exact.proofs.WholeLemmas.{scale_≤, sum-*ℤ, cancel_≤}
+use Rattle.flk_exact.proofs.RoundingLemmas.{IsFloor-floor_of, floor_at_least}
+use Rattle.flk_exact.proofs.WholeLemmas.{sum-*ℤ, neg-*ℤ, cancel_≤, ≤ℤ_trans}
 use Rattle.flk_change.specs.Steady.{window_at}
 use Rattle.flk_change.specs.Changes.{total, level}
 
@@ -81,36 +81,23 @@ slide-moves window i xs d there some whole =
 
 -- ---- levels
 
-full : {A : Type 0} (window j : ℕ) (xs : List A) → window ≤ j → j ≤ length xs → length (window_at window xs j) ≡ window
-full window j xs whole there = omega (arith, length-take (j - (j - window)) (drop (j - window) xs), length-drop (j - window) xs)
+pub length-window_at : {A : Type 0} (window j : ℕ) (xs : List A) → window ≤ j → j ≤ length xs → length (window_at window xs j) ≡ window
+length-window_at window j xs whole there = omega (arith, length-take (j - (j - window)) (drop (j - window) xs), length-drop (j - window) xs)
 
 pub floor_≤ : (a b : ℤ) (m : ℕ) → 0 < m → a ≤ℤ b → floor_of a (pos m) ≤ℤ floor_of b (pos m)
 floor_≤ a b m some less =
-    let p = IsFloor-floor_of a m some in
-    let q = IsFloor-floor_of b m some in
-    by_lt_z (floor_of b (pos m)) (floor_of a (pos m))
-    (λ more. let step : (floor_of b (pos m) +ℤ pos 1) ≤ℤ floor_of a (pos m) = omega (arith, ints) in
-    absurd (omega (arith, ints, scale_≤ (floor_of b (pos m) +ℤ pos 1) (floor_of a (pos m)) m step, sum-*ℤ (floor_of b (pos m)) (pos 1) m, p.within, q.greatest)))
-    (λ within. within)
+    floor_at_least b m (floor_of b (pos m)) (floor_of a (pos m)) (IsFloor-floor_of b m some) (≤ℤ_trans (IsFloor-floor_of a m some).within less)
 
 -- a whole number of divisors more is that many more
 floor_shift : (a b : ℤ) (m h : ℕ) → 0 < m → b ≤ℤ (a +ℤ pos (m * h)) → floor_of b (pos m) ≤ℤ (floor_of a (pos m) +ℤ pos h)
 floor_shift a b m h some less =
-    let p = IsFloor-floor_of a m some in
-    let q = IsFloor-floor_of b m some in
-    let fa = floor_of a (pos m) in
-    by_lt_z (fa +ℤ pos h) (floor_of b (pos m))
-    (λ more. let step : (fa +ℤ (pos h +ℤ pos 1)) ≤ℤ floor_of b (pos m) = omega (arith, ints) in
-    absurd (omega (arith, ints, scale_≤ (fa +ℤ (pos h +ℤ pos 1)) (floor_of b (pos m)) m step, sum-*ℤ fa (pos h +ℤ pos 1) m, p.greatest, q.within)))
-    (λ within. within)
+    let within = (IsFloor-floor_of b m some).within in
+    let back = floor_of b (pos m) -ℤ pos h in
+    let low = floor_at_least a m (floor_of a (pos m)) back (IsFloor-floor_of a m some) (omega (arith, ints, within, sum-*ℤ (floor_of b (pos m)) (neg_ℤ (pos h)) m, neg-*ℤ (pos h) m)) in
+    omega (arith, ints, low)
 
 pub floor_above : (l a : ℤ) (m : ℕ) → 0 < m → (l *ℤ pos m) ≤ℤ a → l ≤ℤ floor_of a (pos m)
-floor_above l a m some h =
-    let p = IsFloor-floor_of a m some in
-    by_lt_z (floor_of a (pos m)) l
-    (λ more. let step : (floor_of a (pos m) +ℤ pos 1) ≤ℤ l = omega (arith, ints) in
-    absurd (omega (arith, ints, scale_≤ (floor_of a (pos m) +ℤ pos 1) l m step, sum-*ℤ (floor_of a (pos m)) (pos 1) m, p.greatest)))
-    (λ within. within)
+floor_above l a m some h = floor_at_least a m (floor_of a (pos m)) l (IsFloor-floor_of a m some) h
 
 pub floor_below : (g a : ℤ) (m : ℕ) → 0 < m → a ≤ℤ (g *ℤ pos m) → floor_of a (pos m) ≤ℤ g
 floor_below g a m some h =
@@ -127,16 +114,16 @@ pub level-wider : (window h : ℕ) (xs ys : List ℤ) (j : ℕ) → 0 < window �
 level-wider window h xs ys j some whole there z =
     let part = window_at window xs j in
     let wider = total-wider h part (window_at window ys j) (AllZip-slice_range (λ x y. y ≤ℤ (x +ℤ pos h)) (j - window) j xs ys z) in
-    floor_shift (total part) (total (window_at window ys j)) window h some (omega (arith, ints, wider, ap (λ (k : ℕ). k * h) (full window j xs whole there)))
+    floor_shift (total part) (total (window_at window ys j)) window h some (omega (arith, ints, wider, ap (λ (k : ℕ). k * h) (length-window_at window j xs whole there)))
 
 pub level-above : (l : ℤ) (window : ℕ) (xs : List ℤ) (j : ℕ) → 0 < window → window ≤ j → j ≤ length xs → All (λ x. l ≤ℤ x) xs → l ≤ℤ level window xs j
 level-above l window xs j some whole there h =
     let part = window_at window xs j in
     let low = total-above l part (All-take (λ x. l ≤ℤ x) (j - (j - window)) (drop (j - window) xs) (All-drop (λ x. l ≤ℤ x) (j - window) xs h)) in
-    floor_above l (total part) window some (rw (full window j xs whole there) at low)
+    floor_above l (total part) window some (rw (length-window_at window j xs whole there) at low)
 
 pub level-below : (g : ℤ) (window : ℕ) (xs : List ℤ) (j : ℕ) → 0 < window → window ≤ j → j ≤ length xs → All (λ x. x ≤ℤ g) xs → level window xs j ≤ℤ g
 level-below g window xs j some whole there h =
     let part = window_at window xs j in
     let high = total-below g part (All-take (λ x. x ≤ℤ g) (j - (j - window)) (drop (j - window) xs) (All-drop (λ x. x ≤ℤ g) (j - window) xs h)) in
-    floor_below g (total part) window some (rw (full window j xs whole there) at high)
+    floor_below g (total part) window some (rw (length-window_at window j xs whole there) at high)

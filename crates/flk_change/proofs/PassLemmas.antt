@@ -8,12 +8,12 @@ use Rattle.flk_change.specs.declared.swings.Swings.{Swings}
 use Rattle.flk_change.specs.declared.pass.Outcome.{Outcome}
 use Rattle.flk_change.specs.declared.pass.Pass.{Pass}
 use Rattle.flk_change.specs.Values.{lows, highs, IsInRange}
-use Rattle.flk_change.specs.Changes.{Change, between, after, whole, first, stop, level, before, IsAmong, excesses, IsGreatestOrZero, Quantity, Dc, Dmax, Tmax, Gives, IsQuantity}
+use Rattle.flk_change.specs.Changes.{Change, between, first, stop, level, before, IsAmong, excesses, IsGreatestOrZero, Quantity, Dc, Dmax, Tmax, Gives, IsQuantity}
 use Rattle.flk_change.specs.Resolutions.{IsTaken, least_distance, greatest_distance, least_readings, greatest_readings}
 use Rattle.flk_change.specs.Pass.{least_swing, greatest_swing, AreSwings, IsClosed, IsClosedQuantity, ClosedRunsFrom, IsClosedOutcome, IsLastTaken, open_change, HasPassed, IsOutcome}
 use Rattle.flk_change.proofs.GreatestLemmas.{greatest_same, greatest_none}
 use Rattle.flk_change.proofs.GivesLemmas.{gives_dc, gives_dmax, gives_t, gives_dc_open, gives_dmax_open}
-use Rattle.flk_change.proofs.ChangeLemmas.{closed_untaken, closed_near, closed_new, last_untaken, last_taken, last_none, greatest_of_all}
+use Rattle.flk_change.proofs.ChangeLemmas.{none_closed, closed_untaken, closed_near, closed_new, last_untaken, last_taken, last_none, greatest_of_all}
 use Rattle.flk_change.proofs.SwingLemmas.{least_natural, greatest_natural, excesses_≤, excesses_none}
 
 -- ---- the windows of a resolution
@@ -65,11 +65,6 @@ part_is window halves l c s e f h =
     }
 
 -- ---- the changes that are over
-
-none_closed : (st : ℕ → Type 0) (c : Change) → IsClosed st 0 c → ⊥
-none_closed st (between j k) s = absurd (omega (arith, s.2, s.3))
-none_closed st (after j) s = s
-none_closed st whole s = s
 
 pub closed_start : (window : ℕ) (halves : List Interval) (resolution : List Bool) (q : Quantity) → ClosedRunsFrom q window halves resolution 0 (pos 0) (pos 0)
 closed_start window halves resolution q = record {

@@ -5,9 +5,9 @@ use Rattle.std.specs.Int.{int_max}
 use Rattle.std.proofs.lemmas.Int.{ints}
 use Rattle.std.proofs.lemmas.Bool.{cases_lt}
 use Rattle.flk_change.specs.Changes.{Change, between, after, whole, IsChange, first, stop, Readings, IsStep, IsAmong, excesses, IsGreatestOrZero, Quantity, Dc, Dmax, Tmax, Gives, IsQuantity}
-use Rattle.flk_change.specs.Pass.{IsClosed, IsLastTaken, open_change}
+use Rattle.flk_change.specs.Pass.{IsLastTaken, open_change}
 use Rattle.flk_change.proofs.GreatestLemmas.{greatest_within, greatest_≤, greatest_unique, greatest_none, greatest_same}
-use Rattle.flk_change.proofs.ChangeLemmas.{Closed, closed_untaken, closed_near, closed_new, last_untaken, last_taken, last_none, greatest_of_all, change_same}
+use Rattle.flk_change.proofs.ChangeLemmas.{Closed, none_closed, closed_untaken, closed_near, closed_new, last_untaken, last_taken, last_none, greatest_of_all, change_same}
 use Rattle.flk_change.proofs.SwingLemmas.{among_none, among_more, excesses_≤, excesses_none}
 use Rattle.flk_change.proofs.GivesLemmas.{gives_dc, gives_dmax, gives_t, gives_dc_open, gives_dmax_open}
 
@@ -84,17 +84,12 @@ pub record Walked (steady : ℕ → Type 0) (n : ℕ) (gives : Change → ℤ �
   pub is_last : IsLastTaken steady n last
   pub is : IsGreatestOrZero (Closed steady n gives) value
 
-no_closed : (steady : ℕ → Type 0) (c : Change) → IsClosed steady 0 c → ⊥
-no_closed steady (between j k) s = absurd (omega (arith, s.2, s.3))
-no_closed steady (after j) s = s
-no_closed steady whole s = s
-
 walk : (q : Quantity) (steady : ℕ → Type 0) (window count n : ℕ) (r : Readings) → ((i : ℕ) → steady i ⊎ ¬ steady i) → ¬ steady 0 → AreNatural steady count r → n ≤ count → Walked steady n (Gives q window count r)
 walk q steady window count zero r decide start natural within = record {
   last = 0;
   value = pos 0;
   is_last = last_none steady;
-  is = greatest_none (Closed steady 0 (Gives q window count r)) (λ x (c, s, e). no_closed steady c s);
+  is = greatest_none (Closed steady 0 (Gives q window count r)) (λ x (c, s, e). none_closed steady c s);
 }
 walk q steady window count (suc n) r decide start natural within =
     let before = walk q steady window count n r decide start natural (omega arith) in

@@ -1,5 +1,5 @@
 -- Exact values within the half-periods' intervals: how they follow the ends, and what flags say of their windows.
-use Rattle.std.proofs.Common.{◌≡◌, ◌⊎◌, inl, inr, ℕ, ◌+◌, ◌-◌, ◌<◌, ◌≤◌, Bool, true, false, List, [], ◌∷◌, length, get_or, ℤ, pos, ◌+ℤ◌, ◌-ℤ◌, ◌≤ℤ◌, refl, arith, length-take, length-drop, drop, ⊎_elim}
+use Rattle.std.proofs.Common.{◌≡◌, ◌⊎◌, inl, inr, ℕ, ◌+◌, ◌-◌, ◌<◌, ◌≤◌, Bool, true, false, List, [], ◌∷◌, length, get_or, ℤ, pos, ◌+ℤ◌, ◌-ℤ◌, ◌≤ℤ◌, refl, arith, drop, ⊎_elim}
 use Rattle.std.specs.List.{All, AllZip, Contains}
 use Rattle.std.proofs.lemmas.Int.{ints, by_lt_z}
 use Rattle.std.proofs.lemmas.Bool.{cases_lt}
@@ -13,6 +13,7 @@ use Rattle.flk_change.specs.declared.flag.Flag.TheVariants.{Early, Sure, Not, Do
 use Rattle.flk_change.specs.Values.{lows, highs, HoldValues, IsNarrow}
 use Rattle.flk_change.specs.Steady.{window_at, IsSteady, IsSpread, IsFlag}
 use Rattle.flk_change.specs.Resolutions.{Resolves}
+use Rattle.flk_change.proofs.LevelLemmas.{length-window_at}
 
 -- ---- values and ends
 
@@ -66,9 +67,6 @@ spread_bounds values spread x y h a b =
     omega (arith, ints, h.is, All-contains (λ z. z ≤ℤ h.greatest) values x h.is_greatest.at_least a, All-contains (λ z. h.least ≤ℤ z) values y h.is_least.at_most b)
 
 -- a window is steady, or it isn't
-full : (window j : ℕ) (xs : List ℤ) → window ≤ j → j ≤ length xs → length (window_at window xs j) ≡ window
-full window j xs whole there = omega (arith, length-take (j - (j - window)) (drop (j - window) xs), length-drop (j - window) xs)
-
 pub cases_steady : (window : ℕ) (values : List ℤ) (j : ℕ) → 0 < window → IsSteady window values j ⊎ ¬ IsSteady window values j
 cases_steady window values j some =
     ⊎_elim
@@ -78,7 +76,7 @@ cases_steady window values j some =
     (λ beyond. inr (λ s. absurd (omega (arith, s.there))))
     (λ there.
     let part = window_at window values j in
-    let spread = spread_exists part (omega (arith, full window j values whole there)) in
+    let spread = spread_exists part (omega (arith, length-window_at window j values whole there)) in
     by_lt_z (pos 4000000) spread.0
     (λ large. inr (λ s.
     let far = s.close spread.1.greatest spread.1.least spread.1.is_greatest.among spread.1.is_least.among in

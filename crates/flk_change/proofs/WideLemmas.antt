@@ -1,12 +1,12 @@
 -- The wide intervals: their ends, and that they hold the quantities of every list of values within the half-periods' intervals.
-use Rattle.std.proofs.Common.{◌≡◌, ◌<◌, List, [], ◌∷◌, ◌++◌, length, map, get_or, ℤ, pos, ◌-ℤ◌, ◌≤ℤ◌, sym, ap, ◌∙◌, subst, arith}
+use Rattle.std.proofs.Common.{◌≡◌, ◌<◌, List, [], ◌∷◌, ◌++◌, length, map, get_or, ℤ, pos, ◌-ℤ◌, ◌≤ℤ◌, sym, subst, arith}
 use Rattle.std.specs.Int.{int_max}
 use Rattle.std.specs.List.{All, Contains}
 use Rattle.std.proofs.lemmas.Int.{ints, clamps, by_lt_z}
-use Rattle.std.proofs.lemmas.List.{length-map, get_or-map}
+use Rattle.std.proofs.lemmas.List.{length-map}
 use Rattle.std.proofs.lemmas.List.Elements.{All-cons, All-map, All-append, All-contains, Contains-append_left, Contains-append_right}
 use Rattle.flk_exact.specs.Extreme.{IsLeast, IsGreatest}
-use Rattle.flk_exact.proofs.ListLemmas.{AllZip-get_or}
+use Rattle.flk_exact.proofs.ListLemmas.{AllZip-get_or, Contains-map}
 use Rattle.flk_num.specs.declared.interval.Interval.{Interval}
 use Rattle.flk_change.specs.Values.{lows, highs, IsInRange}
 use Rattle.flk_change.specs.Changes.{distance}
@@ -30,9 +30,6 @@ lows_below halves g h = λ k d there.
 all_map : (f : ℤ → ℤ) (m l g : ℤ) (zs : List ℤ) → ((z : ℤ) → l ≤ℤ z → z ≤ℤ g → f z ≤ℤ m) → All (λ z. l ≤ℤ z) zs → All (λ z. z ≤ℤ g) zs → All (λ z. f z ≤ℤ m) zs
 all_map f m l g zs bound low high = λ k d there. bound (get_or zs k d) (low k d there) (high k d there)
 
-pub contains_map : (f : ℤ → ℤ) (zs : List ℤ) (z : ℤ) → Contains zs z → Contains (map f zs) (f z)
-contains_map f zs z h = (h.0, omega (arith, h.1, length-map zs f), get_or-map f zs h.0 z (f z) h.1 ∙ ap f h.2)
-
 -- the greatest of how far the ends are apart, and of how far one is from nominal
 pub furthest_of : (halves : List Interval) (l g m : ℤ) → IsLeast (lows halves) l → IsGreatest (highs halves) g → m ≡ int_max (g -ℤ l) (greatest_distance l g (pos 1000000000) (pos 1000000000))
     → IsGreatest ((g -ℤ l) ∷ map (λ z. distance z (pos 1000000000)) (lows halves ++ highs halves)) m
@@ -47,9 +44,9 @@ furthest_of halves l g m low high is =
           (λ less. let e : m ≡ g -ℤ l = omega (arith, ints, clamps, is) in (0, omega arith, sym e))
           (λ most. by_lt_z (n -ℤ l) (g -ℤ n)
           (λ up. let e : away g ≡ m = omega (arith, ints, clamps, is, ordered) in
-          subst (Contains ((g -ℤ l) ∷ map away all)) e (Contains-append_right ((g -ℤ l) ∷ []) (map away all) (away g) (contains_map away all g (Contains-append_right (lows halves) (highs halves) g high.among))))
+          subst (Contains ((g -ℤ l) ∷ map away all)) e (Contains-append_right ((g -ℤ l) ∷ []) (map away all) (away g) (Contains-map away all g (Contains-append_right (lows halves) (highs halves) g high.among))))
           (λ down. let e : away l ≡ m = omega (arith, ints, clamps, is, ordered) in
-          subst (Contains ((g -ℤ l) ∷ map away all)) e (Contains-append_right ((g -ℤ l) ∷ []) (map away all) (away l) (contains_map away all l (Contains-append_left (lows halves) (highs halves) l low.among)))));
+          subst (Contains ((g -ℤ l) ∷ map away all)) e (Contains-append_right ((g -ℤ l) ∷ []) (map away all) (away l) (Contains-map away all l (Contains-append_left (lows halves) (highs halves) l low.among)))));
       at_least = All-cons (λ z. z ≤ℤ m) (g -ℤ l) (map away all) (omega (arith, ints, clamps, is))
           (All-map (λ z. z ≤ℤ m) away all
           (All-append (λ z. away z ≤ℤ m) (lows halves) (highs halves)

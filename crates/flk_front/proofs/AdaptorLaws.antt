@@ -10,13 +10,12 @@ use Rattle.std.proofs.Math.Nat.{mul-pos}
 use Rattle.flk_exact.specs.Fraction.{Fraction, ◌≈ℚ◌, ◌+ℚ◌, ◌-ℚ◌, ◌*ℚ◌, whole}
 use Rattle.flk_exact.proofs.WholeLemmas.{square_is, positive_is}
 use Rattle.flk_exact.proofs.ProductLemmas.{lin, mul_assoc}
-use Rattle.flk_exact.proofs.NumeratorLemmas.{IsOver, cancel_≡, over_grow, over_sum, over_difference, over_times, over_product, over_same, same_over}
+use Rattle.flk_exact.proofs.NumeratorLemmas.{IsOver, cancel_≡, over_grow, over_sum, over_difference, over_times, over_product, over_same, same_over, positive_over, numerators, number}
 use Rattle.flk_num.specs.declared.interval.Interval.{Interval}
 use Rattle.flk_front.specs.declared.point.Point.{Point}
 use Rattle.flk_front.specs.Adaptor.{quarter, divisor, IsNextMean, IsOutput, IsAdapted}
 use Rattle.flk_front.specs.Rounded.{newest_output, ArePoints}
-use Rattle.flk_front.proofs.Numerators.{positive_over, over_greater}
-use Rattle.flk_front.proofs.MeanLemmas.{numerators, number}
+use Rattle.flk_front.proofs.Numerators.{over_greater}
 
 -- ---- there is a next mean
 

@@ -3,9 +3,9 @@ use Rattle.std.proofs.Common.{◌≡◌, ℕ, ◌+◌, ◌-◌, ◌*◌, ◌/◌
 use Rattle.std.specs.Prelude.{negsuc}
 use Rattle.std.specs.Int.RustNames.{unsigned_abs}
 use Rattle.std.proofs.lemmas.Int.{ints}
-use Rattle.std.proofs.Math.Nat.{mul-le-mul_left, mul-le-mul_right, mul-pos, le_of_mul-le-mul_right}
+use Rattle.std.proofs.Math.Nat.{div-mul-le_self, mul-le-mul_left, mul-le-mul_right, mul-pos, le_of_mul-le-mul_right}
 use Rattle.flk_exact.specs.Fraction.{Fraction, ◌*ℚ◌, units}
-use Rattle.flk_exact.proofs.NumeratorLemmas.{IsOver, over_grow, over_units, over_difference, over_product, over_size, over_same, at_most_over}
+use Rattle.flk_exact.proofs.NumeratorLemmas.{IsOver, over_grow, over_units, over_difference, over_product, over_size, over_same, at_most_over, above_own, below_own, as_natural, natural_number, numerators, number}
 use Rattle.flk_num.specs.declared.interval.Interval.{Interval}
 use Rattle.flk_num.specs.Interval.{Holds, HoldEach}
 use Rattle.flk_front.specs.declared.ends.Ends.{Ends}
@@ -13,10 +13,10 @@ use Rattle.flk_front.specs.declared.point.Point.{Point}
 use Rattle.flk_front.specs.Adaptor.{quarter, divisor, IsOutput, IsAdapted}
 use Rattle.flk_front.specs.Rounded.{squares_of, mean_of, divisor_of, output_of, newest_output, IsPoint}
 use Rattle.flk_front.specs.Front.{IsWithin}
-use Rattle.flk_front.proofs.Numerators.{above_own, below_own, as_natural, natural_number, over_greater, natural_max}
-use Rattle.flk_front.proofs.SquareSteps.{floor_within, ceil_within, square_above, square_below}
+use Rattle.flk_front.proofs.Numerators.{over_greater, natural_max}
+use Rattle.flk_front.proofs.SquareSteps.{ceil_within, square_above, square_below}
 use Rattle.flk_front.proofs.PointSteps.{cases_le, point_upper, point_lower}
-use Rattle.flk_front.proofs.MeanLemmas.{numerators, number, over_square, square_over, mean_natural}
+use Rattle.flk_front.proofs.MeanLemmas.{square_over, mean_natural}
 use Rattle.flk_front.proofs.HeldMeans.{IsHeld, fine, mean_held}
 
 -- ---- the divisor
@@ -105,7 +105,7 @@ point_holds_over base M v m u y p z x mu some hu hm hy held out inside point =
     let d = max mu K in
     let some_d : 0 < d = omega (arith, hD) in
     let over_d = over_divisor D K mu m eq hm in
-    let o = output_numbers D d nu m u y (x *ℤ pos delta) hD some_d out over_d (square_over delta u z hu) (over_square delta y x hy) in
+    let o = output_numbers D d nu m u y (x *ℤ pos delta) hD some_d out over_d (square_over delta u z hu) (over_grow delta delta y x hy) in
     let q = squares_of v in
     let by = divisor_of M in
     let low_M = above_own D (fine M.lo) m (pos mu) hm inside.low in
@@ -115,7 +115,7 @@ point_holds_over base M v m u y p z x mu some hu hm hy held out inside point =
     let some_lo : 0 < by.lo = omega arith in
     let out_ends = output_of q by in
     let top = point_upper (2 ^ 64) (2 ^ 48) D o.eta d nu q.hi by.lo out_ends.hi (omega arith) some_d o.is (square_above v u delta z hd hu held) low_by (ceil_within (q.hi * 2 ^ 64) by.lo some_lo) in
-    let foot = point_lower (2 ^ 64) (2 ^ 48) D o.eta d nu q.lo by.hi out_ends.lo (omega arith) some_d o.is (square_below v u delta z hd hu held) high_by (floor_within (q.lo * 2 ^ 64) by.hi) in
+    let foot = point_lower (2 ^ 64) (2 ^ 48) D o.eta d nu q.lo by.hi out_ends.lo (omega arith) some_d o.is (square_below v u delta z hd hu held) high_by (div-mul-le_self (q.lo * 2 ^ 64) by.hi) in
     is_within D o.eta out_ends p y hD o.over foot top point
 
 point_holds : (M : Ends) (v : Interval) (m u y : Fraction) (p : Point) → pos 0 ≤ℤ m.num → Holds v u → IsOutput m u y → IsHeld M m
@@ -124,7 +124,7 @@ point_holds M v m u y p low held out inside point =
     let fs : List Fraction = u ∷ m ∷ y ∷ [] in
     let k = numerators fs in
     let delta = k.base * 2 ^ 48 in
-    let mu = natural_number (delta * delta) m _ low (over_square delta m _ (number fs k 1 (omega arith))) in
+    let mu = natural_number (delta * delta) m _ low (over_grow delta delta m _ (number fs k 1 (omega arith))) in
     point_holds_over k.base M v m u y p _ _ mu.number k.some (number fs k 0 (omega arith)) mu.over (number fs k 2 (omega arith)) held out inside point
 
 -- for the newest sample of a run in the intervals

@@ -4,18 +4,17 @@ use Rattle.std.specs.Int.{div_ceil}
 use Rattle.std.specs.Int.RustNames.{unsigned_abs}
 use Rattle.std.proofs.lemmas.Int.{ints}
 use Rattle.std.proofs.lemmas.Nat.{pow_pos}
-use Rattle.std.proofs.Math.Nat.{mul-pos}
+use Rattle.std.proofs.Math.Nat.{div-le_self, div-mul-le_self, mul-pos}
 use Rattle.flk_exact.specs.Fraction.{Fraction, ◌≤ℚ◌}
-use Rattle.flk_exact.proofs.NumeratorLemmas.{IsOver}
+use Rattle.flk_exact.proofs.NumeratorLemmas.{IsOver, above_own, below_own, own_above, own_below, numerators, number}
 use Rattle.flk_num.specs.declared.interval.Interval.{Interval}
 use Rattle.flk_num.specs.Interval.{Holds, HoldEach}
 use Rattle.flk_front.specs.declared.ends.Ends.{Ends}
 use Rattle.flk_front.specs.Adaptor.{IsNextMean, IsAdapted}
 use Rattle.flk_front.specs.Rounded.{squares_of, next_mean, mean_of}
-use Rattle.flk_front.proofs.Numerators.{above_own, below_own, own_above, own_below}
 use Rattle.flk_front.proofs.MeanSteps.{upper_kept, lower_kept}
-use Rattle.flk_front.proofs.SquareSteps.{floor_within, ceil_within, square_above, square_below}
-use Rattle.flk_front.proofs.MeanLemmas.{numerators, number, powers, ceil_below, floor_below, less, Step, step, mean_natural}
+use Rattle.flk_front.proofs.SquareSteps.{ceil_within, square_above, square_below}
+use Rattle.flk_front.proofs.MeanLemmas.{powers, ceil_below, less, Step, step, mean_natural}
 
 -- units of 2^-64
 abbrev pub fine : ℕ → Fraction
@@ -39,7 +38,7 @@ step_below e M Q delta m next z he hd s h hQ =
     let hM = above_own square (fine M) m (pos s.mu) s.before h in
     let kept =
     lower_kept (2 ^ 16) gain (less e) (2 ^ 48) square s.mu s.nu (unsigned_abs z * unsigned_abs z) M (M - f + part) Q part f (size ∙ powers e he) s.moves (omega (arith, ints)) hQ
-    (omega (arith, ceil_within M (2 ^ e) some)) (omega (arith, floor_within Q gain)) (omega (arith, ceil_below M (2 ^ e) some)) in
+    (omega (arith, ceil_within M (2 ^ e) some)) (omega (arith, div-mul-le_self Q gain)) (omega (arith, ceil_below M (2 ^ e) some)) in
     own_above square (fine (M - f + part)) next (pos s.nu) (mul-pos hd hd) s.after (omega (arith, ints))
 
 step_above : (e M Q delta : ℕ) (m next : Fraction) (z : ℤ) → 16 ≤ e → 0 < delta → Step e m next delta z → m ≤ℚ fine M
@@ -55,7 +54,7 @@ step_above e M Q delta m next z he hd s h hQ =
     let hM = below_own square m (fine M) (pos s.mu) s.before h in
     let kept =
     upper_kept (2 ^ 16) gain (less e) (2 ^ 48) square s.mu s.nu (unsigned_abs z * unsigned_abs z) M (M - f + part) Q part f (size ∙ powers e he) s.moves (omega (arith, ints)) hQ
-    (omega (arith, floor_within M (2 ^ e))) (omega (arith, ceil_within Q gain (pow_pos (e - 16)))) (omega (arith, floor_below M (2 ^ e) some)) in
+    (omega (arith, div-mul-le_self M (2 ^ e))) (omega (arith, ceil_within Q gain (pow_pos (e - 16)))) (omega (arith, div-le_self M (2 ^ e))) in
     own_below square next (fine (M - f + part)) (pos s.nu) (mul-pos hd hd) s.after (omega (arith, ints))
 
 held_next_over : (e delta : ℕ) (M : Ends) (v : Interval) (m u next : Fraction) (z x y : ℤ) → 0 < delta → IsOver delta u z → IsOver delta m x → IsOver delta next y

@@ -1,5 +1,5 @@
--- The exact means, in natural numbers over a common denominator.
-use Rattle.std.proofs.Common.{◌≡◌, ℕ, ◌+◌, ◌-◌, ◌*◌, ◌/◌, ◌^◌, ◌<◌, ◌≤◌, List, [], ◌∷◌, map, length, get_or, ℤ, pos, ◌+ℤ◌, ◌-ℤ◌, ◌*ℤ◌, ◌≤ℤ◌, ap, subst, ◌∙◌, arith}
+-- The exact means, in natural numbers over a common denominator, and rounded parts of a mean.
+use Rattle.std.proofs.Common.{◌≡◌, ℕ, ◌+◌, ◌-◌, ◌*◌, ◌^◌, ◌<◌, ◌≤◌, List, [], ◌∷◌, ℤ, pos, ◌+ℤ◌, ◌-ℤ◌, ◌*ℤ◌, ◌≤ℤ◌, ap, subst, ◌∙◌, arith}
 use Rattle.std.specs.Int.{div_ceil}
 use Rattle.std.specs.Int.RustNames.{unsigned_abs}
 use Rattle.std.proofs.lemmas.Int.{ints}
@@ -8,32 +8,13 @@ use Rattle.std.proofs.Math.Nat.{mul-le-mul_left, mul-le-mul_right, mul-pos, lt_o
 use Rattle.flk_exact.specs.Fraction.{Fraction, ◌-ℚ◌, ◌*ℚ◌}
 use Rattle.flk_exact.proofs.WholeLemmas.{square_is, cancel_≤}
 use Rattle.flk_exact.proofs.ProductLemmas.{lin, sub_scaled}
-use Rattle.flk_exact.proofs.ListLemmas.{AllZip-get_or}
-use Rattle.flk_exact.proofs.NumeratorLemmas.{IsOver, AllOver, common, all_over_grow, over_grow, over_difference, over_times, over_product, over_same}
-use Rattle.flk_front.specs.Adaptor.{quarter, IsNextMean, IsAdapted}
-use Rattle.flk_front.proofs.Numerators.{natural_over, over_natural, as_natural}
-use Rattle.flk_front.proofs.SquareSteps.{floor_within, ceil_least}
+use Rattle.flk_exact.proofs.NumeratorLemmas.{IsOver, over_grow, over_difference, over_times, over_product, over_same, natural_over, over_natural, as_natural, numerators, number}
+use Rattle.flk_front.specs.Adaptor.{IsNextMean, IsAdapted}
+use Rattle.flk_front.proofs.SquareSteps.{ceil_least}
 
--- ---- numerators of some fractions over a denominator that 2^48 divides
+-- ---- numerators
 
-pub record Numerators (fs : List Fraction) : Type 0 where
-  pub base : ℕ
-  pub some : 0 < base
-  pub numbers : List ℤ
-  pub over : AllOver (base * 2 ^ 48) fs numbers
-
-pub numerators : (fs : List Fraction) → Numerators fs
-numerators fs =
-    let k = common fs in
-    record { base = k.delta; some = k.positive; numbers = map (λ z. z *ℤ pos (2 ^ 48)) k.numerators; over = all_over_grow k.delta (2 ^ 48) fs k.numerators k.over }
-
-pub number : (fs : List Fraction) (n : Numerators fs) (i : ℕ) → i < length fs → IsOver (n.base * 2 ^ 48) (get_or fs i quarter) (get_or n.numbers i (pos 0))
-number fs n i h = AllZip-get_or (IsOver (n.base * 2 ^ 48)) fs n.numbers i quarter (pos 0) n.over h
-
--- and over the square of that denominator
-pub over_square : (delta : ℕ) (f : Fraction) (z : ℤ) → IsOver delta f z → IsOver (delta * delta) f (z *ℤ pos delta)
-over_square delta f z h = over_grow delta delta f z h
-
+-- a square is over the square of the denominator
 pub square_over : (delta : ℕ) (u : Fraction) (z : ℤ) → IsOver delta u z → IsOver (delta * delta) (u *ℚ u) (pos (unsigned_abs z * unsigned_abs z))
 square_over delta u z h = subst (λ (n : ℤ). IsOver (delta * delta) (u *ℚ u) n) (square_is z) (over_product delta delta u u z z h h)
 
@@ -52,9 +33,6 @@ part_below b f M some h =
 
 pub ceil_below : (M b : ℕ) → 0 < b → div_ceil M b ≤ M
 ceil_below M b some = part_below b (div_ceil M b) M some (ceil_least M b some)
-
-pub floor_below : (M b : ℕ) → 0 < b → M / b ≤ M
-floor_below M b some = omega (arith, floor_within M b, mul-le-mul_left (M / b) some)
 
 -- ---- the exact mean
 
@@ -96,8 +74,8 @@ pub step : (e delta : ℕ) (m u next : Fraction) (z x y : ℤ) → 0 < delta →
 step e delta m u next z x y hd hu hm hn low h =
     let square = delta * delta in
     let some : 0 < 2 ^ e = pow_pos e in
-    let over_m = over_square delta m x hm in
-    let over_next = over_square delta next y hn in
+    let over_m = over_grow delta delta m x hm in
+    let over_next = over_grow delta delta next y hn in
     let mu = as_natural square m _ (natural_over square m _ low over_m) over_m in
     let eq = moves e square mu.0 _ m u next (y *ℤ pos delta) (mul-pos hd hd) h mu.2 over_next (square_over delta u z hu) in
     let grows : mu.0 ≤ 2 ^ e * mu.0 = omega (arith, mul-le-mul_right mu.0 some) in

@@ -6,19 +6,18 @@ use Rattle.std.specs.Int.RustNames.{unsigned_abs}
 use Rattle.std.specs.List.{AllZip}
 use Rattle.std.proofs.lemmas.Int.{ints}
 use Rattle.std.proofs.lemmas.Nat.{pow_pos}
-use Rattle.std.proofs.Math.Nat.{mul-le-mul_left, mul-pos, le_of_mul-le-mul_left}
+use Rattle.std.proofs.Math.Nat.{div-le_self, mul-le-mul_left, mul-pos, le_of_mul-le-mul_left}
 use Rattle.std.proofs.Math.IntN.{*ℤ_comm}
 use Rattle.flk_exact.specs.Fraction.{Fraction, ◌≤ℚ◌, ◌≈ℚ◌, ◌+ℚ◌, size, whole}
-use Rattle.flk_exact.proofs.NumeratorLemmas.{IsOver, over_sum, over_times, over_product, over_size, over_at_most, at_most_over}
+use Rattle.flk_exact.proofs.NumeratorLemmas.{IsOver, over_sum, over_times, over_product, over_size, over_at_most, at_most_over, natural_number, numerators, number}
 use Rattle.flk_num.specs.declared.interval.Interval.{Interval}
 use Rattle.flk_front.specs.declared.ends.Ends.{Ends}
 use Rattle.flk_front.specs.Adaptor.{IsNextMean, IsAdapted}
 use Rattle.flk_front.specs.Rounded.{squares_of, next_mean, mean_of}
 use Rattle.flk_front.specs.Width.{IsNear, square_reach}
-use Rattle.flk_front.proofs.Numerators.{natural_number}
 use Rattle.flk_front.proofs.MeanSteps.{upper_near, lower_near}
 use Rattle.flk_front.proofs.SquareSteps.{floor_greatest, ceil_least, square_top, square_foot}
-use Rattle.flk_front.proofs.MeanLemmas.{numerators, number, powers, ceil_below, floor_below, less, step, mean_natural}
+use Rattle.flk_front.proofs.MeanLemmas.{powers, ceil_below, less, step, mean_natural}
 use Rattle.flk_front.proofs.HeldMeans.{fine}
 
 -- a sum for the rounding of so many samples, and the reach of the squares
@@ -134,7 +133,7 @@ near_above e M Q D mu mu' nu kappa he moves hM hQ =
     let wide : 2 * (less e + 1) * D ≡ 2 * 2 ^ e * D = ap (λ (n : ℕ). 2 * n * D) size in
     let kept =
     upper_near (2 ^ 16) gain (less e) (2 ^ 48) D mu mu' nu kappa M (M - f + part) Q part f (size ∙ powers e he) moves (omega arith) hQ
-    (omega (arith, floor_greatest M (2 ^ e) some)) (omega (arith, ceil_least Q gain (pow_pos (e - 16)))) (omega (arith, floor_below M (2 ^ e) some)) in
+    (omega (arith, floor_greatest M (2 ^ e) some)) (omega (arith, ceil_least Q gain (pow_pos (e - 16)))) (omega (arith, div-le_self M (2 ^ e))) in
     omega arith
 
 near_next_over : (e base : ℕ) (reach a : Fraction) (M : Ends) (v : Interval) (m u next : Fraction) (z x y : ℤ) (rho size_a : ℕ) → 0 < base → IsOver (base * 2 ^ 48) u z

@@ -1,22 +1,22 @@
 -- All points of a list of intervals at once.
-use Rattle.std.proofs.Common.{◌≡◌, ℕ, zero, suc, ◌+◌, ◌-◌, ◌*◌, ◌/◌, ◌^◌, ◌<◌, ◌≤◌, List, [], ◌∷◌, All, ℤ, pos, ap, arith}
-use Rattle.std.specs.Prelude.{negsuc}
+use Rattle.std.proofs.Common.{◌≡◌, ℕ, suc, ◌+◌, ◌-◌, ◌*◌, ◌/◌, ◌^◌, ◌<◌, ◌≤◌, List, [], ◌∷◌, All, ap, arith}
 use Rattle.std.specs.Int.{div_ceil}
 use Rattle.std.specs.List.{AllZip}
 use Rattle.std.proofs.lemmas.Nat.{mul-le, pow_pos}
-use Rattle.std.proofs.Math.Nat.{mul-le-mul_left, mul-le-mul_right, lt_of_mul-lt-mul_right, le_of_mul-le-mul_right}
+use Rattle.std.proofs.lemmas.List.Elements.{All-cons}
+use Rattle.std.proofs.Math.Nat.{div-le_self, div-mul-le_self, mul-le-mul_left, mul-le-mul_right, lt_of_mul-lt-mul_right, le_of_mul-le-mul_right}
 use Rattle.flk_exact.specs.Fraction.{Fraction, ◌≤ℚ◌, units}
 use Rattle.flk_num.specs.declared.interval.Interval.{Interval}
 use Rattle.flk_num.specs.Interval.{HoldEach}
-use Rattle.flk_num.specs.Square.{least_size, greatest_size}
+use Rattle.flk_num.proofs.SizeLemmas.{sizes_ordered}
 use Rattle.flk_front.specs.declared.ends.Ends.{Ends}
 use Rattle.flk_front.specs.declared.point.Point.{Point}
 use Rattle.flk_front.specs.Adaptor.{IsAdapted}
 use Rattle.flk_front.specs.Rounded.{squares_of, next_mean, mean_of, divisor_of, newest_output, ArePoints}
 use Rattle.flk_front.specs.Front.{IsWithin}
 use Rattle.flk_front.specs.Width.{AreClose, CoversOutput}
-use Rattle.flk_front.proofs.SquareSteps.{floor_within, ceil_within}
-use Rattle.flk_front.proofs.MeanLemmas.{ceil_below, floor_below}
+use Rattle.flk_front.proofs.SquareSteps.{ceil_within}
+use Rattle.flk_front.proofs.MeanLemmas.{ceil_below}
 use Rattle.flk_front.proofs.EnclosureLemmas.{point_encloses}
 use Rattle.flk_front.proofs.WidthLemmas.{point_is_narrow}
 
@@ -26,21 +26,16 @@ use Rattle.flk_front.proofs.WidthLemmas.{point_is_narrow}
 floor_ceil : (x y c d : ℕ) → 0 < c → x ≤ y → c ≤ d → x / d ≤ div_ceil y c
 floor_ceil x y c d some order wider =
     let f = x / d in
-    let k = floor_within x d in
+    let k = div-mul-le_self x d in
     let g = ceil_within y c some in
     let h : f * c ≤ f * d = mul-le-mul_left f wider in
     let l : f * c < (div_ceil y c + 1) * c = omega arith in
     let m : f < div_ceil y c + 1 = lt_of_mul-lt-mul_right c l in
     omega arith
 
-least_below : (lo hi : ℤ) → least_size lo hi ≤ greatest_size lo hi
-least_below (pos a) hi = omega arith
-least_below (negsuc a) (pos b) = omega arith
-least_below (negsuc a) (negsuc b) = omega arith
-
 squares_ordered : (v : Interval) → (squares_of v).lo ≤ (squares_of v).hi
 squares_ordered v =
-    let size = least_below v.lo v.hi in
+    let size = sizes_ordered v.lo v.hi in
     floor_ceil _ _ (2 ^ 48) (2 ^ 48) (omega arith) (mul-le _ _ _ _ size size) (omega arith)
 
 -- what is left of x and of y, where f is a part in k + 1 of x, rounded up, and g one of y, rounded down
@@ -60,7 +55,7 @@ next_ordered e M q order squares =
     let g = M.hi / 2 ^ e in
     let f_by : f * (k + 1) ≡ f * 2 ^ e = ap (λ (n : ℕ). f * n) whole in
     let g_by : g * (k + 1) ≡ g * 2 ^ e = ap (λ (n : ℕ). g * n) whole in
-    let left = left_ordered k M.lo M.hi f g order (omega (arith, ceil_within M.lo (2 ^ e) some)) (omega (arith, floor_within M.hi (2 ^ e))) (ceil_below M.lo (2 ^ e) some) (floor_below M.hi (2 ^ e) some) in
+    let left = left_ordered k M.lo M.hi f g order (omega (arith, ceil_within M.lo (2 ^ e) some)) (omega (arith, div-mul-le_self M.hi (2 ^ e))) (ceil_below M.lo (2 ^ e) some) (div-le_self M.hi (2 ^ e)) in
     let part = floor_ceil q.lo q.hi (2 ^ (e - 16)) (2 ^ (e - 16)) (pow_pos (e - 16)) squares (omega arith) in
     omega arith
 
@@ -68,7 +63,7 @@ mean_ordered : (e : ℕ) (vs : List Interval) → (mean_of e vs).lo ≤ (mean_of
 mean_ordered e [] = omega arith
 mean_ordered e (v ∷ vs) = next_ordered e (mean_of e vs) (squares_of v) (mean_ordered e vs) (squares_ordered v)
 
-output_ordered : (e : ℕ) (vs : List Interval) (v : Interval) → (newest_output e vs v).lo ≤ (newest_output e vs v).hi
+pub output_ordered : (e : ℕ) (vs : List Interval) (v : Interval) → (newest_output e vs v).lo ≤ (newest_output e vs v).hi
 output_ordered e vs v =
     let q = squares_of v in
     let M = mean_of e vs in
@@ -107,10 +102,6 @@ close_before delta a r v vs u next m us means h = record {
   divisors = λ i d k. h.divisors (suc i) d (omega arith);
 }
 
-all_more : (P : Point → Type 0) (p : Point) (ps : List Point) → P p → All P ps → All P (p ∷ ps)
-all_more P p ps h k zero d low = h
-all_more P p ps h k (suc i) d low = k i d (omega arith)
-
 pub points_are_narrow : (e : ℕ) (vs : List Interval) (us means ys : List Fraction) (ps : List Point) (delta a r w : Fraction) → 16 ≤ e → e ≤ 17 → IsAdapted e us means ys
     → AreClose delta a r vs us means → CoversOutput delta a r w → ArePoints e vs ps → All (λ p. units p.radius ≤ℚ w) ps
 points_are_narrow e [] us means ys [] delta a r w low high h close covers points = λ i d k. absurd (omega arith)
@@ -121,6 +112,6 @@ points_are_narrow e (v ∷ vs) (u ∷ us) [] ys (p ∷ ps) delta a r w low high 
 points_are_narrow e (v ∷ vs) (u ∷ us) (m ∷ []) ys (p ∷ ps) delta a r w low high h close covers points = absurd h
 points_are_narrow e (v ∷ vs) (u ∷ us) (next ∷ m ∷ means) [] (p ∷ ps) delta a r w low high h close covers points = absurd h
 points_are_narrow e (v ∷ vs) (u ∷ us) (next ∷ m ∷ means) (y ∷ ys) (p ∷ ps) delta a r w low high h close covers points =
-    all_more (λ p. units p.radius ≤ℚ w) p ps
+    All-cons (λ p. units p.radius ≤ℚ w) p ps
     (point_is_narrow e vs v (u ∷ us) (next ∷ m ∷ means) (y ∷ ys) delta a r w p low high h close covers points.0 (output_ordered e vs v))
     (points_are_narrow e vs us (m ∷ means) ys ps delta a r w low high h.2 (close_before delta a r v vs u next m us means close) covers points.1)

@@ -1,27 +1,23 @@
--- Rounded squares and the exact square of a voltage.
-use Rattle.std.proofs.Common.{◌≡◌, ℕ, ◌+◌, ◌-◌, ◌*◌, ◌/◌, ◌^◌, ◌<◌, ◌≤◌, max, ℤ, pos, ◌-ℤ◌, ◌*ℤ◌, ◌≤ℤ◌, ap, arith}
-use Rattle.std.specs.Prelude.{suc, negsuc}
+-- Quotients of natural numbers, rounded down and up; and rounded squares: they hold the exact square of a voltage, and are not far from it.
+use Rattle.std.proofs.Common.{◌≡◌, ℕ, ◌+◌, ◌-◌, ◌*◌, ◌/◌, ◌^◌, ◌<◌, ◌≤◌, ℤ, pos, ◌-ℤ◌, ◌*ℤ◌, ap, arith}
+use Rattle.std.specs.Prelude.{negsuc}
 use Rattle.std.specs.Int.{div_ceil}
 use Rattle.std.specs.Int.RustNames.{unsigned_abs}
-use Rattle.std.proofs.lemmas.Int.{ints}
+use Rattle.std.proofs.lemmas.Int.{ints, unsigned_abs-mul}
 use Rattle.std.proofs.lemmas.Grind.{div_ceil_times}
 use Rattle.std.proofs.lemmas.Nat.{mul-le, div-add-mod', mod_below}
-use Rattle.std.proofs.Math.Nat.{mul-le-mul_left, mul-le-mul_right, le_of_mul-le-mul_left, lt_of_mul-lt-mul_right}
+use Rattle.std.proofs.Math.Nat.{div-mul-le_self, mul-le-mul_left, mul-le-mul_right, le_of_mul-le-mul_left, lt_of_mul-lt-mul_right}
 use Rattle.flk_exact.specs.Fraction.{Fraction, ◌≤ℚ◌, ◌-ℚ◌, size, units}
-use Rattle.flk_exact.proofs.ProductLemmas.{size_of_product}
 use Rattle.flk_exact.proofs.NumeratorLemmas.{IsOver, over_units, over_difference, over_size, over_at_most}
 use Rattle.flk_num.specs.declared.interval.Interval.{Interval}
 use Rattle.flk_num.specs.Interval.{Holds}
 use Rattle.flk_num.specs.Square.{least_size, greatest_size}
+use Rattle.flk_num.proofs.SizeLemmas.{least_held, greatest_held}
 use Rattle.flk_front.specs.Rounded.{squares_of}
 use Rattle.flk_front.specs.Width.{IsNear}
-use Rattle.flk_front.proofs.Numerators.{above_own, below_own}
 use Rattle.flk_front.proofs.PointSteps.{cases_le}
 
 -- ---- quotients of natural numbers
-
-pub floor_within : (a b : ℕ) → a / b * b ≤ a
-floor_within a b = omega (arith, div-add-mod' a b)
 
 pub floor_greatest : (a b : ℕ) → 0 < b → a + 1 ≤ a / b * b + b
 floor_greatest a b h = omega (arith, div-add-mod' a b, mod_below a b h)
@@ -49,21 +45,6 @@ ceil_from x q d some h =
     let l = ceil_least (x - q * d) d some in
     ceil_unique x d (q + c) some (omega arith) (omega arith)
 
--- ---- the size of a voltage, over delta, lies between the sizes of its interval's ends
-
-least_of : (lo hi z : ℤ) (d : ℕ) → (lo *ℤ pos d) ≤ℤ (z *ℤ pos (2 ^ 48)) → (z *ℤ pos (2 ^ 48)) ≤ℤ (hi *ℤ pos d) → 0 < d → least_size lo hi * d ≤ unsigned_abs z * 2 ^ 48
-least_of (pos a) hi (pos z) d p q h = omega (arith, ints)
-least_of (pos a) hi (negsuc z) d p q h = absurd (omega (arith, ints))
-least_of (negsuc a) (pos b) z d p q h = omega arith
-least_of (negsuc a) (negsuc b) (pos z) d p q h = absurd (omega (arith, ints))
-least_of (negsuc a) (negsuc b) (negsuc z) d p q h = omega (arith, ints)
-
-greatest_of : (lo hi z : ℤ) (d : ℕ) → (lo *ℤ pos d) ≤ℤ (z *ℤ pos (2 ^ 48)) → (z *ℤ pos (2 ^ 48)) ≤ℤ (hi *ℤ pos d) → 0 < d → unsigned_abs z * 2 ^ 48 ≤ greatest_size lo hi * d
-greatest_of lo (pos b) (pos z) d p q h = omega (arith, ints, mul-le-mul_right {m = b} {n = max (unsigned_abs lo) b} d (omega arith))
-greatest_of lo (negsuc b) (pos z) d p q h = absurd (omega (arith, ints))
-greatest_of (negsuc a) hi (negsuc z) d p q h = omega (arith, ints, mul-le-mul_right {m = suc a} {n = max (suc a) (unsigned_abs hi)} d (omega arith))
-greatest_of (pos a) hi (negsuc z) d p q h = absurd (omega (arith, ints))
-
 -- ---- rounded squares hold the exact one
 
 square_within : (w g s d Q : ℕ) → 0 < w → s * w ≤ g * d → g * g ≤ Q * w → w * (s * s) ≤ Q * (d * d)
@@ -81,23 +62,23 @@ square_beyond w l s d Q hw h k =
 pub square_above : (v : Interval) (u : Fraction) (delta : ℕ) (n : ℤ) → 0 < delta → IsOver delta u n → Holds v u
     → 2 ^ 48 * (unsigned_abs n * unsigned_abs n) ≤ (squares_of v).hi * (delta * delta)
 square_above v u delta n hd h held =
-    let size = greatest_of v.lo v.hi n delta (above_own delta _ u n h held.above) (below_own delta u _ n h held.below) hd in
+    let size = greatest_held v u delta n hd h held in
     square_within (2 ^ 48) (greatest_size v.lo v.hi) (unsigned_abs n) delta (squares_of v).hi (omega arith) size (ceil_within (greatest_size v.lo v.hi * greatest_size v.lo v.hi) (2 ^ 48) (omega arith))
 
 pub square_below : (v : Interval) (u : Fraction) (delta : ℕ) (n : ℤ) → 0 < delta → IsOver delta u n → Holds v u
     → (squares_of v).lo * (delta * delta) ≤ 2 ^ 48 * (unsigned_abs n * unsigned_abs n)
 square_below v u delta n hd h held =
-    let size = least_of v.lo v.hi n delta (above_own delta _ u n h held.above) (below_own delta u _ n h held.below) hd in
-    square_beyond (2 ^ 48) (least_size v.lo v.hi) (unsigned_abs n) delta (squares_of v).lo (omega arith) size (floor_within (least_size v.lo v.hi * least_size v.lo v.hi) (2 ^ 48))
+    let size = least_held v u delta n hd h held in
+    square_beyond (2 ^ 48) (least_size v.lo v.hi) (unsigned_abs n) delta (squares_of v).lo (omega arith) size (div-mul-le_self (least_size v.lo v.hi * least_size v.lo v.hi) (2 ^ 48))
 
 -- ---- and are not far from it, where the ends are near the voltage
 
 -- an end, times base, that is near z
 near_size : (base rho : ℕ) (end z : ℤ) → unsigned_abs (pos base *ℤ end -ℤ z) ≤ rho → unsigned_abs end * base ≤ unsigned_abs z + rho
-near_size base rho end z h = omega (arith, ints, size_of_product (pos base) end)
+near_size base rho end z h = omega (arith, ints, unsigned_abs-mul (pos base) end)
 
 near_size_back : (base rho : ℕ) (end z : ℤ) → unsigned_abs (pos base *ℤ end -ℤ z) ≤ rho → unsigned_abs z ≤ unsigned_abs end * base + rho
-near_size_back base rho end z h = omega (arith, ints, size_of_product (pos base) end)
+near_size_back base rho end z h = omega (arith, ints, unsigned_abs-mul (pos base) end)
 
 greatest_near : (base rho : ℕ) (lo hi z : ℤ) → unsigned_abs (pos base *ℤ lo -ℤ z) ≤ rho → unsigned_abs (pos base *ℤ hi -ℤ z) ≤ rho
     → greatest_size lo hi * base ≤ unsigned_abs z + rho

@@ -7,17 +7,16 @@ use Rattle.std.proofs.lemmas.Nat.{mul-le, pow-add, pow_pos}
 use Rattle.std.proofs.Math.Nat.{mul-le-mul_left, mul-le-mul_right, mul-pos}
 use Rattle.flk_exact.specs.Fraction.{Fraction, ◌≤ℚ◌, ◌+ℚ◌, ◌-ℚ◌, ◌*ℚ◌, size, whole, units}
 use Rattle.flk_exact.proofs.WholeLemmas.{scale_≤, cancel_≤, ≤ℤ_trans, assoc-*ℤ}
-use Rattle.flk_exact.proofs.NumeratorLemmas.{IsOver, over_grow, over_units, over_whole, over_sum, over_difference, over_times, over_product, over_size, over_at_most}
+use Rattle.flk_exact.proofs.NumeratorLemmas.{IsOver, over_grow, over_units, over_whole, over_sum, over_difference, over_times, over_product, over_size, over_at_most, below_own, own_above, positive_over, as_natural, natural_number, numerators, number}
 use Rattle.flk_num.specs.declared.interval.Interval.{Interval}
 use Rattle.flk_front.specs.declared.ends.Ends.{Ends}
 use Rattle.flk_front.specs.declared.point.Point.{Point}
 use Rattle.flk_front.specs.Adaptor.{divisor, IsAdapted}
 use Rattle.flk_front.specs.Rounded.{squares_of, mean_of, divisor_of, output_of, newest_output, IsPoint}
 use Rattle.flk_front.specs.Width.{IsNear, AreClose, CoversOutput, square_reach, hundredth}
-use Rattle.flk_front.proofs.Numerators.{below_own, own_above, positive_over, as_natural, natural_number}
 use Rattle.flk_front.proofs.SquareSteps.{floor_greatest, ceil_least, square_top, square_foot}
 use Rattle.flk_front.proofs.PointSteps.{cases_le, top_of_point, foot_of_point, radius_here, radius_of_run, radius_bound, radius_wider}
-use Rattle.flk_front.proofs.MeanLemmas.{numerators, number, over_square, mean_natural}
+use Rattle.flk_front.proofs.MeanLemmas.{mean_natural}
 use Rattle.flk_front.proofs.NearMeans.{IsNearMean, over_reach, square_parts, low_numbers, high_numbers, mean_near}
 use Rattle.flk_front.proofs.EnclosureLemmas.{over_divisor, greater_below}
 
@@ -175,7 +174,7 @@ numbers_over : (base : ℕ) (m u delta a r w : Fraction) (z n d t k x : ℤ) →
 numbers_over base m u delta a r w z n d t k x some hu hm hd ha hr hw m_low delta_low a_low r_low =
     let den = base * 2 ^ 48 in
     let den_some : 0 < den = omega arith in
-    let over_m = natural_number (square_den base) m (n *ℤ pos den) m_low (over_square den m n hm) in
+    let over_m = natural_number (square_den base) m (n *ℤ pos den) m_low (over_grow den den m n hm) in
     let two : (pos base *ℤ pos 2) ≤ℤ d = over_at_most den (units (pos 2)) delta (pos base *ℤ pos 2) d den_some delta_low (over_units base (pos 2)) hd in
     let e = as_natural den delta d (omega (arith, ints)) hd in
     let rho = e.0 - base in
@@ -241,7 +240,7 @@ point_narrow_over e base M v m u delta a r w p n he delta_high near most a_high 
     let radius = out.hi - half in
     let radius_is : p.radius ≡ pos radius = omega (arith, ints, point.mid, point.radius) in
     let over_div = over_divisor D (quarter_number base) n.mu m (omega arith) n.mean in
-    let over_r = over_square den r (pos n.k) n.over_r in
+    let over_r = over_grow den den r (pos n.k) n.over_r in
     let r_below : pos (n.k * den) ≤ℤ pos (max n.mu (quarter_number base)) = over_at_most D r (divisor m) (pos n.k *ℤ pos den) _ hD above over_r over_div in
     let bound = radius_in_run base n.s n.rho n.mu nu radius (n.k * den) M (squares_of v) sample (omega arith) order (omega (arith, ints, r_below)) in
     let E = reach_number n.s (n.rho + base) in

@@ -1,6 +1,5 @@
 -- Intervals of voltages hold the values of half-periods.
-use Rattle.std.proofs.Common.{ℕ, ◌*◌, ◌^◌, ◌<◌, ◌≤◌, max, List, [], ◌∷◌, ℤ, pos, ◌*ℤ◌, ◌≤ℤ◌, arith}
-use Rattle.std.specs.Prelude.{suc, negsuc}
+use Rattle.std.proofs.Common.{ℕ, ◌*◌, ◌^◌, ◌≤◌, List, [], ◌∷◌, ℤ, pos, ◌≤ℤ◌, arith}
 use Rattle.std.proofs.Math.Nat.{mul-le-mul_right, le_of_mul-le-mul_left}
 use Rattle.std.specs.Int.RustNames.{unsigned_abs}
 use Rattle.std.proofs.lemmas.Int.{ints}
@@ -10,33 +9,15 @@ use Rattle.flk_exact.specs.Fraction.{Fraction}
 use Rattle.flk_exact.specs.Rounding.{IsBetween}
 use Rattle.flk_exact.specs.HalfPeriod.{IsHalfPeriodValue}
 use Rattle.flk_exact.proofs.WholeLemmas.{square_is}
+use Rattle.flk_exact.proofs.NumeratorLemmas.{over_own}
 use Rattle.flk_exact.proofs.HalfPeriodLemmas.{square_den, square_num, square_den_pos, reached_of, of_reached}
 use Rattle.flk_num.specs.declared.interval.Interval.{Interval}
-use Rattle.flk_num.specs.Interval.{Holds, HoldEach}
+use Rattle.flk_num.specs.Interval.{HoldEach}
 use Rattle.flk_num.specs.Square.{least_size, greatest_size, least_squares, greatest_squares}
+use Rattle.flk_num.proofs.SizeLemmas.{least_held, greatest_held}
 use Rattle.flk_half.specs.Cutter.{IsReachedBy, IsValueAt, IsHalfPeriodInterval}
 
--- the size of a voltage is at least the least size of its interval, and at most the greatest
-least_of : (lo hi z : ℤ) (d : ℕ) → 0 < d → (lo *ℤ pos d) ≤ℤ (z *ℤ pos (2 ^ 48)) → (z *ℤ pos (2 ^ 48)) ≤ℤ (hi *ℤ pos d) → least_size lo hi * d ≤ unsigned_abs z * 2 ^ 48
-least_of (pos a) hi (pos z) d h p q = omega (arith, ints)
-least_of (pos a) hi (negsuc z) d h p q = absurd (omega (arith, ints))
-least_of (negsuc a) (pos b) z d h p q = omega arith
-least_of (negsuc a) (negsuc b) (pos z) d h p q = absurd (omega (arith, ints))
-least_of (negsuc a) (negsuc b) (negsuc z) d h p q = omega (arith, ints)
-
-greatest_of : (lo hi z : ℤ) (d : ℕ) → 0 < d → (lo *ℤ pos d) ≤ℤ (z *ℤ pos (2 ^ 48)) → (z *ℤ pos (2 ^ 48)) ≤ℤ (hi *ℤ pos d) → unsigned_abs z * 2 ^ 48 ≤ greatest_size lo hi * d
-greatest_of lo (pos b) (pos z) d h p q = omega (arith, ints, mul-le-mul_right {m = b} {n = max (unsigned_abs lo) b} d (omega arith))
-greatest_of lo (negsuc b) (pos z) d h p q = absurd (omega (arith, ints))
-greatest_of (negsuc a) hi (negsuc z) d h p q = omega (arith, ints, mul-le-mul_right {m = suc a} {n = max (suc a) (unsigned_abs hi)} d (omega arith))
-greatest_of (pos a) hi (negsuc z) d h p q = absurd (omega (arith, ints))
-
-size_above : (v : Interval) (u : Fraction) → Holds v u → least_size v.lo v.hi * u.den ≤ unsigned_abs u.num * 2 ^ 48
-size_above v u h = least_of v.lo v.hi u.num u.den u.positive h.above.cross h.below.cross
-
-size_below : (v : Interval) (u : Fraction) → Holds v u → unsigned_abs u.num * 2 ^ 48 ≤ greatest_size v.lo v.hi * u.den
-size_below v u h = greatest_of v.lo v.hi u.num u.den u.positive h.above.cross h.below.cross
-
--- and so the sums of the squares
+-- the sums of the squares of voltages lie between those of the least and of the greatest sizes
 pub sum_above : (vs : List Interval) (us : List Fraction) → HoldEach vs us → least_squares vs * square_den us ≤ square_num us * 2 ^ 96
 sum_above [] [] h = omega arith
 sum_above [] (u ∷ us) h = absurd h
@@ -45,7 +26,8 @@ sum_above (v ∷ vs) (u ∷ us) h =
     let a = least_size v.lo v.hi in
     let m = unsigned_abs u.num in
     let d = u.den in
-    let one : a * d * (a * d) ≤ m * 2 ^ 48 * (m * 2 ^ 48) = mul-le _ _ _ _ (size_above v u h.0) (size_above v u h.0) in
+    let size = least_held v u d u.num u.positive (over_own u) h.0 in
+    let one : a * d * (a * d) ≤ m * 2 ^ 48 * (m * 2 ^ 48) = mul-le _ _ _ _ size size in
     rw (sum_by-cons (λ v. least_size v.lo v.hi * least_size v.lo v.hi) v vs)
     (omega (arith, mul-le-mul_right (square_den us) one, mul-le-mul_right (d * d) (sum_above vs us h.1)))
 
@@ -57,7 +39,8 @@ sum_below (v ∷ vs) (u ∷ us) h =
     let a = greatest_size v.lo v.hi in
     let m = unsigned_abs u.num in
     let d = u.den in
-    let one : m * 2 ^ 48 * (m * 2 ^ 48) ≤ a * d * (a * d) = mul-le _ _ _ _ (size_below v u h.0) (size_below v u h.0) in
+    let size = greatest_held v u d u.num u.positive (over_own u) h.0 in
+    let one : m * 2 ^ 48 * (m * 2 ^ 48) ≤ a * d * (a * d) = mul-le _ _ _ _ size size in
     rw (sum_by-cons (λ v. greatest_size v.lo v.hi * greatest_size v.lo v.hi) v vs)
     (omega (arith, mul-le-mul_right (square_den us) one, mul-le-mul_right (d * d) (sum_below vs us h.1)))
 

@@ -83,7 +83,7 @@ impl Cutter {
     /// least `half / 2` of them. (`negative` says whether the sample's recorded voltage is negative; the interval `voltage` is in
     /// units of 2^-48 of nominal, and its ends are at most five times nominal in size.)
     ///
-    /// The ends are the values of IEC 61000-3-3 at the least and at the greatest squares of the voltages, rounded down. The
+    /// The ends are the values of IEC 61000-3-3, clause 3, at the least and at the greatest squares of the voltages, rounded down. The
     /// interval holds the value of every run within the intervals taken, and is at most `3 * 10^9 * delta + 3` wide where each of
     /// them is at most `2 * delta` wide. Takes no memory.
     pub fn push(&mut self, negative: bool, voltage: Interval) -> Option<Interval>

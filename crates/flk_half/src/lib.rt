@@ -2,7 +2,7 @@
 //!
 //! A [`Cutter`] takes the samples of one channel in the order of time, each by the sign of its recorded voltage and the interval
 //! of its voltages. It ends half-periods by the signs alone, so that every run of exact voltages has the same half-periods, and
-//! answers the interval of each half-period's value, by which IEC 61000-3-3 judges voltage changes. The interval holds the value
+//! answers the interval of each half-period's value, by which IEC 61000-3-3, clause 3, judges voltage changes. The interval holds the value
 //! of every run whose voltages lie within the intervals taken, and is narrow where they are.
 //!
 //! What the state of a cutter stands for and what the interval is stand in `specs/Cutter.antt`; cut, value and width are those of
