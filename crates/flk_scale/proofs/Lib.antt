@@ -3,4 +3,4 @@ mod PartsLemmas
 mod SlopeLemmas
 mod SamplesLemmas
 mod UnitLemmas
-mod ScaleLemmas
+pub mod ScaleLemmas

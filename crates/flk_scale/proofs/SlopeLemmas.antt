@@ -1,13 +1,7 @@
 -- The estimate of a quotient by a share.
 use Rattle.std.proofs.Common.{◌≡◌, ℕ, ◌+◌, ◌*◌, ◌^◌, ◌<◌, ◌≤◌, ℤ, pos, ◌+ℤ◌, ◌*ℤ◌, arith}
-use Rattle.std.specs.Int.RustNames.{unsigned_abs}
 use Rattle.std.proofs.Math.Nat.{mul-le-mul_right, mul-le-mul_left}
-use Rattle.std.proofs.lemmas.Int.{unsigned_abs-mul}
-use Rattle.std.proofs.lemmas.Nat.{mul-le}
 use Rattle.flk_exact.proofs.WholeLemmas.{atom, nat, plus_is, times_is, same}
-
-pub product_small : (x y : ℤ) (k l : ℕ) → unsigned_abs x ≤ k → unsigned_abs y ≤ l → unsigned_abs (x *ℤ y) ≤ k * l
-product_small x y k l small few = omega (arith, unsigned_abs-mul x y, mul-le _ _ _ _ small few)
 
 -- x times the share is at most x times the rest, and less than twice the divisor below it
 pub estimate_low : (x share c r d : ℕ) → c * 2 ^ 64 ≤ x * share → share * d ≤ r * 2 ^ 64 → c * d ≤ x * r

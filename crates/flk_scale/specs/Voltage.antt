@@ -1,5 +1,5 @@
 -- The voltage that a sample records, and the interval of the exact voltages that it admits, in units of 2^-48 of nominal. A sample x
--- of an analog channel stands for `a * x + b` of the channel's units (IEEE C37.111-1999); a, b are kept in units of 10^-24.
+-- of an analog channel stands for `a * x + b` of the channel's units (IEEE C37.111-1999, clause 5.3); a, b are kept in units of 10^-24.
 use Rattle.std.specs.Prelude.{◌≡◌, ◌⊎◌, ℕ, ◌*◌, ◌^◌, ◌<◌, Bool, true, cond, List, codes, ℤ, pos, ◌+ℤ◌, ◌-ℤ◌, ◌*ℤ◌}
 use Rattle.std.specs.Int.{is_negative}
 use Rattle.std.specs.Int.RustNames.{unsigned_abs}

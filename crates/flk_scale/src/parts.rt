@@ -66,13 +66,7 @@ fn whole_divisors(rest: u128, divisor: u128) -> u8
     ensures greatest { rest < result * divisor + divisor }
     ensures few { result ≤ 2 }
 {
-    if rest < divisor {
-        return 0;
-    }
-    if rest < 2 * divisor {
-        return 1;
-    }
-    2
+    u8::from(divisor <= rest) + u8::from(2 * divisor <= rest)
 }
 
 // How many divisors a rest needs.
@@ -83,16 +77,7 @@ fn needed_divisors(rest: u128, divisor: u128) -> u8
     ensures least { result * divisor < rest + divisor }
     ensures few { result ≤ 3 }
 {
-    if rest == 0 {
-        return 0;
-    }
-    if rest <= divisor {
-        return 1;
-    }
-    if rest <= 2 * divisor {
-        return 2;
-    }
-    3
+    u8::from(0 < rest) + u8::from(divisor < rest) + u8::from(2 * divisor < rest)
 }
 
 /// The sum of two quotients, rounded down.

@@ -147,8 +147,8 @@ impl Scale {
         }
     }
 
-    /// The interval of a sample's voltages in units of 2^-48 of nominal, and OverRange exactly where the recorded voltage is above
-    /// four times nominal in size. Takes no memory.
+    /// The interval of a sample's voltages in units of 2^-48 of nominal, and OverRange exactly where the recorded voltage (`a * x + b` by
+    /// IEEE C37.111-1999, clause 5.3) is above four times nominal in size. Takes no memory.
     ///
     /// The ends are the recorded voltage less the uncertainty, rounded down, and with it, rounded up, both over nominal.
     pub fn voltage(&self, x: i32) -> Result<Interval, OverRange>
