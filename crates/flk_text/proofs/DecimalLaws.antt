@@ -26,7 +26,8 @@ one_answer text (Err Syntax) (Err Range) p q = absurd (p q.0)
 one_answer text (Err Range) (Err Syntax) p q = absurd (q p.0)
 one_answer text (Err Range) (Err Range) p q = refl
 
-whole_once : (text : List ℕ) (y z : ℤ) → IsWholeValue text y → IsWholeValue text z → y ≡ z
+-- a text is of one whole number
+pub whole_once : (text : List ℕ) (y z : ℤ) → IsWholeValue text y → IsWholeValue text z → y ≡ z
 whole_once text y z p q =
     let one : Bool × List ℕ = (p.minus, p.spelled.digits) in
     let other : Bool × List ℕ = (q.minus, q.spelled.digits) in
@@ -102,14 +103,14 @@ units_high : (n m zeros right left u : ℕ) → n ≡ m * 10 ^ zeros → IsUnits
 units_high n m zeros right left u is value =
     units_at n m zeros right left u is value ∙ ap (λ (i : ℕ). m * 10 ^ i) (omega arith) ∙ times_add m (zeros + right) 24
 
-no_units : (n m zeros right left : ℕ) → n ≡ m * 10 ^ zeros → m % 10 ≢ 0 → IsOutOfRange m (zeros + right) left → (u : ℕ) → IsUnits n right left u → IsInSet u → ⊥
+pub no_units : (n m zeros right left : ℕ) → n ≡ m * 10 ^ zeros → m % 10 ≢ 0 → IsOutOfRange m (zeros + right) left → (u : ℕ) → IsUnits n right left u → IsInSet u → ⊥
 no_units n m zeros right left is last (inl long) u value inside = IsLong-out n right left u (long_reduced n m zeros is last long) value inside
 no_units n m zeros right left is last (inr (inl low)) u value inside = units_down n m zeros right left u is (some_reduced m last) last (omega (arith, low)) value
 no_units n m zeros right left is last (inr (inr high)) u value inside =
     let most : u * 10 ^ left ≤ 10 ^ 12 * 10 ^ 24 * 10 ^ left = mul-le-mul_right (10 ^ left) inside.most in
     omega (arith, most, high, units_high n m zeros right left u is value)
 
-in_set_at : (n m zeros right left : ℕ) → n ≡ m * 10 ^ zeros → m % 10 ≢ 0 → m < 10 ^ 18 → left ≤ zeros + right + 24 → m * 10 ^ (zeros + right) ≤ 10 ^ 12 * 10 ^ left
+pub in_set_at : (n m zeros right left : ℕ) → n ≡ m * 10 ^ zeros → m % 10 ≢ 0 → m < 10 ^ 18 → left ≤ zeros + right + 24 → m * 10 ^ (zeros + right) ≤ 10 ^ 12 * 10 ^ left
     → (u : ℕ) × IsUnits n right left u × IsInSet u
 in_set_at n m zeros right left is last few low high =
     let k = zeros + right + 24 - left in

@@ -1,9 +1,9 @@
 -- What the parts of a number's text are, and that they are found again.
-use Rattle.std.proofs.Common.{◌≡◌, ℕ, suc, ◌+◌, ◌-◌, ◌*◌, ◌^◌, ◌<◌, ◌≤◌, Bool, true, false, leb, ◌&&◌, List, [], ◌∷◌, ◌++◌, length, refl, sym, ap, subst, ◌∙◌, arith, inl, inr, add-one}
+use Rattle.std.proofs.Common.{◌≡◌, ℕ, suc, ◌+◌, ◌-◌, ◌*◌, ◌^◌, ◌<◌, ◌≤◌, true, false, leb, List, [], ◌∷◌, ◌++◌, length, refl, sym, ap, subst, ◌∙◌, arith, inl, inr, add-one, one-add}
 use Rattle.std.specs.List.{prefix_len, list_all}
 use Rattle.std.proofs.lemmas.List.{take-append-drop}
 use Rattle.std.proofs.lemmas.Grind.{pow_more}
-use Rattle.std.proofs.lemmas.Bool.{cases_Bool, leb-true}
+use Rattle.std.proofs.lemmas.Bool.{cases_Bool, and_parts, leb-true}
 use Rattle.std.proofs.Math.Nat.{mul-le-mul_right}
 use Rattle.flk_text.specs.Numeral.{is_digit, number_from, AreDigits}
 use Rattle.flk_text.specs.NumeralParts.{digits_of, after_digits}
@@ -13,19 +13,11 @@ abbrev pub StopsDigits : List ℕ → Type 0
 StopsDigits [] = Unit {0}
 StopsDigits (b ∷ bs) = is_digit b ≡ false
 
-pub both_true : (a b : Bool) → (a && b) ≡ true → (a ≡ true) × (b ≡ true)
-both_true true true e = (refl, refl)
-both_true true false e = absurd cc
-both_true false b e = absurd cc
-
-one_more : (n : ℕ) → 1 + n ≡ suc n
-one_more n = omega arith
-
 digits_cons : (b : ℕ) (bs : List ℕ) → is_digit b ≡ true → digits_of (b ∷ bs) ≡ b ∷ digits_of bs
-digits_cons b bs d = rw (d, one_more (prefix_len is_digit bs)) refl
+digits_cons b bs d = rw (d, one-add (prefix_len is_digit bs)) refl
 
 after_cons : (b : ℕ) (bs : List ℕ) → is_digit b ≡ true → after_digits (b ∷ bs) ≡ after_digits bs
-after_cons b bs d = rw (d, one_more (prefix_len is_digit bs)) refl
+after_cons b bs d = rw (d, one-add (prefix_len is_digit bs)) refl
 
 digits_none : (b : ℕ) (bs : List ℕ) → is_digit b ≡ false → (digits_of (b ∷ bs) ≡ []) × (after_digits (b ∷ bs) ≡ b ∷ bs)
 digits_none b bs d = (rw d refl, rw d refl)
@@ -53,26 +45,26 @@ pub digits_front : (ds rest : List ℕ) → AreDigits ds → StopsDigits rest �
 digits_front [] [] are stops = refl
 digits_front [] (b ∷ rest) are stops = (digits_none b rest stops).0
 digits_front (d ∷ ds) rest are stops =
-    let h = both_true (is_digit d) (list_all is_digit ds) are in
+    let h = and_parts (is_digit d) (list_all is_digit ds) are in
     digits_cons d (ds ++ rest) h.0 ∙ ap (λ (t : List ℕ). d ∷ t) (digits_front ds rest h.1 stops)
 
 pub digits_after : (ds rest : List ℕ) → AreDigits ds → StopsDigits rest → after_digits (ds ++ rest) ≡ rest
 digits_after [] [] are stops = refl
 digits_after [] (b ∷ rest) are stops = (digits_none b rest stops).1
 digits_after (d ∷ ds) rest are stops =
-    let h = both_true (is_digit d) (list_all is_digit ds) are in
+    let h = and_parts (is_digit d) (list_all is_digit ds) are in
     after_cons d (ds ++ rest) h.0 ∙ digits_after ds rest h.1 stops
 
 pub digit_most : (d : ℕ) → is_digit d ≡ true → d - 48 ≤ 9
 digit_most d is =
-    let h = both_true (leb 48 d) (leb d 57) is in
+    let h = and_parts (leb 48 d) (leb d 57) is in
     let most : d ≤ 57 = leb-true d 57 h.1 in
     omega arith
 
 pub number_small : (n : ℕ) (ds : List ℕ) → AreDigits ds → number_from n ds < (n + 1) * 10 ^ length ds
 number_small n [] are = omega arith
 number_small n (d ∷ ds) are =
-    let h = both_true (is_digit d) (list_all is_digit ds) are in
+    let h = and_parts (is_digit d) (list_all is_digit ds) are in
     let most : d - 48 ≤ 9 = digit_most d h.0 in
     let ih : number_from (n * 10 + (d - 48)) ds < (n * 10 + (d - 48) + 1) * 10 ^ length ds = number_small (n * 10 + (d - 48)) ds h.1 in
     let grow : (n * 10 + (d - 48) + 1) * 10 ^ length ds ≤ (n * 10 + 10) * 10 ^ length ds = mul-le-mul_right (10 ^ length ds) (omega arith) in

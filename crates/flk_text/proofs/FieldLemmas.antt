@@ -1,15 +1,11 @@
 -- The parts of a line, from the left.
 use Rattle.std.proofs.Common.{◌≡◌, ℕ, ◌+◌, ◌<◌, ◌≤◌, ◌-◌, List, [], ◌∷◌, length, map, take, drop, get_or, refl, sym, ap, ◌∙◌, arith, inl, inr}
 use Rattle.std.specs.List.{count_by, slice_split, before_first, after_first, position_or_len}
-use Rattle.std.proofs.lemmas.List.{get_or-map, get_or-drop, length-map, drop-drop, length-drop}
+use Rattle.std.proofs.lemmas.List.{get_or-map, get_or-drop, length-map, drop-drop, length-drop, take_all}
 use Rattle.std.proofs.lemmas.List.Splits.{slice_split_first, slice_split-cons_no, length-slice_split}
-use Rattle.std.proofs.lemmas.Grind.{common_steps}
 use Rattle.std.proofs.lemmas.Bool.{cases_Bool, cases_lt}
 use Rattle.flk_text.specs.Fields.{trimmed, fields}
 use Rattle.flk_text.specs.Lines.{is_byte}
-
-pub take_all : (n : ℕ) (xs : List ℕ) → length xs ≤ n → take n xs ≡ xs
-take_all n xs le = grind (arith, common_steps)
 
 last_part : (c : ℕ) (xs : List ℕ) → length xs ≤ position_or_len (is_byte c) xs → slice_split (is_byte c) xs ≡ xs ∷ []
 last_part c [] h = refl

@@ -4,5 +4,6 @@ pub mod NumeralLemmas
 pub mod FieldLemmas
 pub mod PlainTextLemmas
 pub mod DecimalLaws
+pub mod TextCases
 pub mod LineLaws
 pub mod WrittenLaws

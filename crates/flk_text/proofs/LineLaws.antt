@@ -2,10 +2,9 @@
 use Rattle.std.proofs.Common.{◌≡◌, ◌≢◌, ℕ, suc, ◌+◌, ◌-◌, ◌<◌, ◌⊎◌, Bool, true, eqb, List, [], ◌∷◌, ◌++◌, length, take, drop, get_or, refl, sym, ap, ◌∙◌, arith, inl, inr, append-nil, append_assoc, length-append}
 use Rattle.std.specs.List.{before_first, after_first, position_or_len}
 use Rattle.std.proofs.lemmas.Bool.{cases_Bool, cases_lt, eqb-true, true≢false}
-use Rattle.std.proofs.lemmas.List.{get_or-take, get_or_append_left, length-take, length-drop, drop_all, take-append-drop}
+use Rattle.std.proofs.lemmas.List.{get_or-take, get_or_append_left, length-take, length-drop, drop_all, take_all, take-append-drop}
 use Rattle.std.proofs.lemmas.List.Sums.{split_at_first, fails_before_first, passes_at_first}
 use Rattle.std.proofs.Math.Seq.{split_at}
-use Rattle.flk_text.proofs.FieldLemmas.{take_all}
 use Rattle.flk_text.specs.Lines.{is_byte, without_cr, line_of, after_line, ends_last_line, last_line_of, without_lf, tail_of, IsLineEnd}
 
 last_cut : (xs : List ℕ) → get_or xs (length xs - 1) 0 ≡ 13 → xs ≡ take (length xs - 1) xs ++ (13 ∷ [])

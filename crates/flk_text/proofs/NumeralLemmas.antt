@@ -2,13 +2,13 @@
 use Rattle.std.proofs.Common.{◌≡◌, ℕ, zero, suc, ◌+◌, ◌^◌, ◌<◌, ◌≤◌, Bool, true, false, cond, ltb, leb, eqb, ◌&&◌, ◌||◌, List, [], ◌∷◌, ◌++◌, length, Option, Some, None, refl, sym, ap, subst, ◌∙◌, arith, inl, inr, ◌⊎◌, ℤ}
 use Rattle.std.specs.List.{list_all}
 use Rattle.std.proofs.lemmas.List.{append-nil, nil_from_length}
-use Rattle.std.proofs.lemmas.Bool.{cases_Bool, leb-true, eqb-true, ltb-true, ne_eqb, lt-ltb, le-leb, true≢false, or_cases}
+use Rattle.std.proofs.lemmas.Bool.{cases_Bool, and_parts, leb-true, eqb-true, ltb-true, ne_eqb, lt-ltb, le-leb, true≢false, or_cases}
 use Rattle.flk_text.specs.Numeral.{is_digit, number_from, digits_number, AreDigits, IsSign, IsFraction, IsExponent, IsNumeral, Numeral}
 use Rattle.flk_text.specs.Decimal.{IsUnits, IsInSet, IsDecimal, IsForm, signed}
 use Rattle.flk_text.proofs.PowersOfTen.{cancel}
 use Rattle.flk_text.specs.WholeNumber.{IsWhole, IsWholeValue, IsWholeForm}
 use Rattle.flk_text.specs.NumeralParts.{◌>>=◌, digits_of, after_digits, sign_of, fraction_of, exponent_of, numeral_of, whole_of}
-use Rattle.flk_text.proofs.DigitRuns.{both_true, StopsDigits, digits_are, digits_cut, digits_front, digits_after}
+use Rattle.flk_text.proofs.DigitRuns.{StopsDigits, digits_are, digits_cut, digits_front, digits_after}
 
 -- ---- signs
 
@@ -56,12 +56,12 @@ sign_again sign rest minus (inr (inr is)) off = rw (is.0, is.1) (sign_minus rest
 
 digit_no_sign : (b : ℕ) (bs : List ℕ) → is_digit b ≡ true → NoSign (b ∷ bs)
 digit_no_sign b bs d =
-    let low : 48 ≤ b = leb-true 48 b (both_true (leb 48 b) (leb b 57) d).0 in
+    let low : 48 ≤ b = leb-true 48 b (and_parts (leb 48 b) (leb b 57) d).0 in
     (ne_eqb b 45 (λ e. omega (arith, e, low)), ne_eqb b 43 (λ e. omega (arith, e, low)))
 
 pub digits_no_sign : (ds rest : List ℕ) → AreDigits ds → 0 < length ds → NoSign (ds ++ rest)
 digits_no_sign [] rest are some = absurd (omega (arith, some))
-digits_no_sign (d ∷ ds) rest are some = digit_no_sign d (ds ++ rest) (both_true (is_digit d) (list_all is_digit ds) are).0
+digits_no_sign (d ∷ ds) rest are some = digit_no_sign d (ds ++ rest) (and_parts (is_digit d) (list_all is_digit ds) are).0
 
 -- ---- guards
 
@@ -150,8 +150,8 @@ exponent_found (b ∷ bs) e is =
     let g = guard_some (eqb b 69 || eqb b 101) _ e is in
     let h = guard_some (fits rest) _ e g.1 in
     let v = picked (sign_of bs).0 (number_from 0 (digits_of rest)) e (some_is _ e h.1) in
-    let t = both_true (eqb (length (after_digits rest)) 0 && ltb 0 (length (digits_of rest))) (leb (length (digits_of rest)) 3) h.0 in
-    let u = both_true (eqb (length (after_digits rest)) 0) (ltb 0 (length (digits_of rest))) t.0 in
+    let t = and_parts (eqb (length (after_digits rest)) 0 && ltb 0 (length (digits_of rest))) (leb (length (digits_of rest)) 3) h.0 in
+    let u = and_parts (eqb (length (after_digits rest)) 0) (ltb 0 (length (digits_of rest))) t.0 in
     let s = sign_found bs in
     let cut : rest ≡ digits_of rest = digits_cut rest ∙ ap (λ (x : List ℕ). digits_of rest ++ x) (length_zero (after_digits rest) u.0) ∙ append-nil (digits_of rest) in
     inr (record {
@@ -301,7 +301,7 @@ whole_found text w is =
     let rest = (sign_of text).1 in
     let made : Bool × List ℕ = ((sign_of text).0, digits_of rest) in
     let g = guard_some (eqb (length (after_digits rest)) 0 && ltb 0 (length (digits_of rest))) (Some made) w is in
-    let u = both_true (eqb (length (after_digits rest)) 0) (ltb 0 (length (digits_of rest))) g.0 in
+    let u = and_parts (eqb (length (after_digits rest)) 0) (ltb 0 (length (digits_of rest))) g.0 in
     let cut : rest ≡ digits_of rest = digits_cut rest ∙ ap (λ (x : List ℕ). digits_of rest ++ x) (length_zero (after_digits rest) u.0) ∙ append-nil (digits_of rest) in
     subst (λ (v : Bool × List ℕ). IsWhole text v.0 (number_from 0 v.1)) (some_is made w g.1) (record {
       sign = s.sign;

@@ -13,7 +13,7 @@ use Rattle.flk_text.specs.Decimal.{IsUnits, IsInSet, IsDecimal, signed}
 use Rattle.flk_text.specs.PlainText.{places_below, fraction_text, plain_size, plain}
 use Rattle.flk_text.proofs.PowersOfTen.{ten_more, ten_pos, times_add, times_ten_more}
 
-digit_is : (d : ℕ) → d ≤ 9 → is_digit (48 + d) ≡ true
+pub digit_is : (d : ℕ) → d ≤ 9 → is_digit (48 + d) ≡ true
 digit_is d few = and_from (leb 48 (48 + d)) (leb (48 + d) 57) (le-leb 48 (48 + d) (omega arith)) (le-leb (48 + d) 57 (omega (arith, few)))
 
 -- what the digits of a whole number are
@@ -43,7 +43,7 @@ pub record Below (k f n : ℕ) (ds : List ℕ) : Type 0 where
   pub few : length ds ≤ k
   pub value : number_from n ds * 10 ^ (k - length ds) ≡ n * 10 ^ k + f
 
-digit_few : (f k : ℕ) → f < 10 ^ suc k → f / 10 ^ k ≤ 9
+pub digit_few : (f k : ℕ) → f < 10 ^ suc k → f / 10 ^ k ≤ 9
 digit_few f k lt =
     let cut : f / 10 ^ k * 10 ^ k + f % 10 ^ k ≡ f = div-add-mod' f (10 ^ k) in
     elim (cases_lt (f / 10 ^ k) 10) [

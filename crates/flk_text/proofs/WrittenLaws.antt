@@ -1,11 +1,12 @@
 -- What is written is read back: lines with their ends, and fields with commas between them.
-use Rattle.std.proofs.Common.{◌≡◌, ℕ, zero, suc, ◌+◌, ◌-◌, ◌<◌, Bool, false, eqb, List, [], ◌∷◌, ◌++◌, length, get_or, take, drop, map, reverse, refl, sym, ap, subst, ◌∙◌, arith, inl, inr, ◌⊎◌, ℤ, length-append, append_assoc}
+use Rattle.std.proofs.Common.{◌≡◌, ℕ, zero, suc, ◌+◌, ◌-◌, ◌<◌, Bool, false, eqb, List, [], ◌∷◌, ◌++◌, length, get_or, take, drop, map, reverse, refl, sym, ap, subst, ◌∙◌, arith, inl, inr, ◌⊎◌, ℤ, length-append, append_assoc, one-add}
 use Rattle.std.specs.Prelude.{not, All}
 use Rattle.std.specs.List.{list_all, slice_split, prefix_len, suffix_len, position_or_len, before_first, after_first}
 use Rattle.std.proofs.lemmas.Bool.{and_parts, and_from, not-true, ne_eqb, eqb-false, true≢false}
 use Rattle.std.proofs.lemmas.List.Splits.{slice_split-cons_no}
 use Rattle.std.proofs.lemmas.List.{take_all, get_or-reverse}
 use Rattle.std.proofs.lemmas.List.Folds.{list_all-append}
+use Rattle.std.proofs.lemmas.List.Elements.{All-head, All-tail}
 use Rattle.std.proofs.Math.Seq.{take-append_seam, drop-append-add, get_or-append_seam}
 use Rattle.flk_text.specs.Numeral.{is_digit, AreDigits, IsSign, IsFraction, IsExponent, IsNumeral, Numeral}
 use Rattle.flk_text.specs.Decimal.{IsDecimal}
@@ -59,14 +60,14 @@ lacks_stays xs h = stays xs (lacks_at xs 0 h) (lacks_at xs (length xs - 1) h)
 
 -- ---- the text of a decimal has no comma and no space
 
-digits_lack : (c : ℕ) (ds : List ℕ) → is_digit c ≡ false → AreDigits ds → Lacks c ds
+pub digits_lack : (c : ℕ) (ds : List ℕ) → is_digit c ≡ false → AreDigits ds → Lacks c ds
 digits_lack c [] off are = refl
 digits_lack c (d ∷ ds) off are =
     let p = and_parts (is_digit d) (list_all is_digit ds) are in
     let other : eqb d c ≡ false = ne_eqb d c (λ e. true≢false (sym p.0 ∙ ap is_digit e ∙ off)) in
     rw other (digits_lack c ds off p.1)
 
-lacks-append : (c : ℕ) (a b : List ℕ) → Lacks c a → Lacks c b → Lacks c (a ++ b)
+pub lacks-append : (c : ℕ) (a b : List ℕ) → Lacks c a → Lacks c b → Lacks c (a ++ b)
 lacks-append c a b la lb = list_all-append (λ x. not (eqb x c)) a b ∙ and_from (list_all (λ x. not (eqb x c)) a) (list_all (λ x. not (eqb x c)) b) la lb
 
 -- a byte that no number has
@@ -111,19 +112,13 @@ numeral_lacks c text d a n =
 
 -- ---- joined fields
 
-all_first : (f : List ℕ) (fs : List (List ℕ)) → All IsField (f ∷ fs) → IsField f
-all_first f fs all = all 0 f (omega arith)
-
-all_rest : (f : List ℕ) (fs : List (List ℕ)) → All IsField (f ∷ fs) → All IsField fs
-all_rest f fs all = λ k d lt. all (suc k) d (omega (arith, lt))
-
 parts_joined : (f : List ℕ) (fs : List (List ℕ)) → All IsField (f ∷ fs) → slice_split (is_byte 44) (joined_fields (f ∷ fs)) ≡ f ∷ fs
-parts_joined f [] all = split_last f (all_first f [] all).no_comma
-parts_joined f (g ∷ gs) all = split_front f (joined_fields (g ∷ gs)) (all_first f (g ∷ gs) all).no_comma ∙ ap (λ (r : List (List ℕ)). f ∷ r) (parts_joined g gs (all_rest f (g ∷ gs) all))
+parts_joined f [] all = split_last f (All-head IsField f [] all).no_comma
+parts_joined f (g ∷ gs) all = split_front f (joined_fields (g ∷ gs)) (All-head IsField f (g ∷ gs) all).no_comma ∙ ap (λ (r : List (List ℕ)). f ∷ r) (parts_joined g gs (All-tail IsField f (g ∷ gs) all))
 
 trims_none : (fs : List (List ℕ)) → All IsField fs → map trimmed fs ≡ fs
 trims_none [] all = refl
-trims_none (f ∷ fs) all = ap (λ (x : List ℕ). x ∷ map trimmed fs) (all_first f fs all).tight ∙ ap (λ (r : List (List ℕ)). f ∷ r) (trims_none fs (all_rest f fs all))
+trims_none (f ∷ fs) all = ap (λ (x : List ℕ). x ∷ map trimmed fs) (All-head IsField f fs all).tight ∙ ap (λ (r : List (List ℕ)). f ∷ r) (trims_none fs (All-tail IsField f fs all))
 
 pub fields_joined : (fs : List (List ℕ)) → 0 < length fs → All IsField fs → fields (joined_fields fs) ≡ fs
 unfolding fields
@@ -144,17 +139,14 @@ decimal_lacks_lf text z d = numeral_lacks 10 text d.numeral lf_apart d.spelled
 
 -- ---- lines
 
-one_more : (n : ℕ) → 1 + n ≡ suc n
-one_more n = omega arith
-
 lf_place : (line rest : List ℕ) → Lacks 10 line → position_or_len (is_byte 10) (line ++ (10 ∷ rest)) ≡ length line
 lf_place [] rest h = refl
 lf_place (x ∷ xs) rest h =
     let p = and_parts (not (eqb x 10)) (list_all (λ b. not (eqb b 10)) xs) h in
     let off : eqb x 10 ≡ false = not-true (eqb x 10) p.0 in
-    rw off (ap (λ (n : ℕ). 1 + n) (lf_place xs rest p.1) ∙ one_more (length xs))
+    rw off (ap (λ (n : ℕ). 1 + n) (lf_place xs rest p.1) ∙ one-add (length xs))
 
-cr_dropped : (line : List ℕ) → without_cr (line ++ (13 ∷ [])) ≡ line
+pub cr_dropped : (line : List ℕ) → without_cr (line ++ (13 ∷ [])) ≡ line
 cr_dropped line =
     let last : length (line ++ (13 ∷ [])) - 1 ≡ length line = omega (arith, length-append line (13 ∷ [])) in
     let cr : get_or (line ++ (13 ∷ [])) (length line) 0 ≡ 13 = get_or-append_seam line 13 [] 0 in

@@ -1,5 +1,5 @@
--- What the digits read so far stand for: a number of at most 18 digits with zeros behind it, or a longer one. Only proofs use
--- this file.
+-- What the digits read so far stand for: a number of at most 18 digits with zeros behind it, or a longer one. Contracts
+-- of private functions cite this file.
 use Rattle.std.specs.Prelude.{◌≡◌, ℕ, ◌*◌, ◌^◌, ◌<◌, ◌≤◌, ◌%◌, ◌≢◌, true, false}
 use Rattle.flk_text.specs.declared.digits.DigitsRead.{DigitsRead}
 

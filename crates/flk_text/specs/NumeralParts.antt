@@ -1,4 +1,4 @@
--- The parts of a number's text as they are found from the left. Only proofs use this file: `Numeral` says what a text is.
+-- The parts of a number's text as they are found from the left. Contracts of private functions cite this file: `Numeral` says what a text is.
 use Rattle.std.specs.Prelude.{ℕ, ◌+◌, Bool, true, false, ◌&&◌, ◌||◌, leb, ltb, eqb, List, [], ◌∷◌, length, take, drop, Option, Some, None, if◌then◌else◌}
 use Rattle.std.specs.List.{prefix_len}
 use Rattle.flk_text.specs.Numeral.{is_digit, number_from, Numeral}

@@ -1,6 +1,6 @@
 //! Decimals and their values.
 
-ghost use Rattle.std.specs.Prelude.{◌≡◌, ℕ, ◌+◌, ◌*◌, ◌<◌, ◌≤◌, ◌^◌, MatchOption, IfOk, length, false, unsigned_abs};
+ghost use Rattle.std.specs.Prelude.{◌≡◌, ℕ, ◌+◌, ◌*◌, ◌<◌, ◌≤◌, ◌^◌, MatchOption, IfOk, length, unsigned_abs};
 ghost use Rattle.flk_text.specs.Numeral.{AreDigits, digits_number};
 ghost use Rattle.flk_text.specs.Decimal.{IsUnits, IsInSet, IsAnswer, signed as signed_units};
 ghost use Rattle.flk_text.specs.NumeralView.{numeral};

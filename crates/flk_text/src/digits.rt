@@ -1,6 +1,6 @@
 //! Digits of any length, read into a number of at most 18 digits and the zeros behind it.
 
-ghost use Rattle.std.specs.Prelude.{◌≡◌, ℕ, ◌+◌, ◌-◌, ◌*◌, ◌<◌, ◌≤◌, ◌^◌, MatchOption, length};
+ghost use Rattle.std.specs.Prelude.{◌≡◌, ℕ, ◌+◌, ◌-◌, ◌*◌, ◌<◌, ◌≤◌, ◌^◌, length};
 ghost use Rattle.flk_text.specs.Numeral.{number_from, AreDigits};
 ghost use Rattle.flk_text.specs.DigitsRead.{StandsFor};
 

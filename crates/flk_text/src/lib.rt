@@ -1,10 +1,10 @@
 //! Lines, fields and numbers of COMTRADE text (IEC 60255-24, IEEE C37.111).
 //!
 //! A configuration file and an ASCII data file are lines of fields. [`Lines`] takes the lines of a file from the front,
-//! [`field`] and [`field_count`] cut a line, [`decimal`] and [`whole`] read a number, and [`push_decimal`] writes one. What a
-//! text may be, and which value it has, is defined in `specs/` as a relation between text and value; each reader answers the
-//! value, or says exactly why there is none. The functions with empty bodies carry the laws of these definitions as their
-//! contracts.
+//! [`field`] and [`field_count`] cut a line, [`decimal`] and [`whole`] read a number, and [`push_decimal`] writes one. For a
+//! file that comes in pieces there are [`position_of`], [`last_line_end`], [`without_cr`] and [`tail_marks`]. What a text may
+//! be, and which value it has, is defined in `specs/` as a relation between text and value; each reader answers the value, or
+//! says exactly why there is none. The functions with empty bodies carry the laws of these definitions as their contracts.
 //!
 //! Reading takes no memory, and each call reads its bytes once from the left.
 #![tactic(auto)]
@@ -29,10 +29,11 @@ pub use laws::{
     lines_are_the_bytes, plain_text_has_its_value, range_is_exact, values_are_in_the_set,
     whole_has_one_answer, written_lines_are_read_back,
 };
-pub use lines::Lines;
-pub use numeral::number_up_to;
-pub use plain_text::push_decimal;
-pub use tail::is_tail;
+pub use lines::{Lines, without_cr};
+pub use numeral::{is_digit, number_up_to};
+pub use plain_text::{push_decimal, push_whole};
+pub use scan::{last_line_end, position_of};
+pub use tail::{is_tail, tail_marks};
 pub use whole_numbers::whole;
 
 #[cfg(test)]

@@ -67,7 +67,7 @@ impl<'a> Lines<'a> {
 }
 
 /// The line without one CR at its end.
-fn without_cr(line: &[u8]) -> &[u8]
+pub fn without_cr(line: &[u8]) -> &[u8]
     ensures { result.now ≡ without_cr_of line.now }
 {
     let count = line.len();

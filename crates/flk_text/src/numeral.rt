@@ -2,7 +2,7 @@
 
 ghost use Rattle.std.specs.Prelude.{◌≡◌, ◌+◌, ◌<◌, ◌≤◌, ◌^◌, min, length, Some, None, option_map, IfSome};
 ghost use Rattle.std.specs.List.{prefix_len};
-ghost use Rattle.flk_text.specs.Numeral.{is_digit as digit_byte, number_from, AreDigits, Numeral};
+ghost use Rattle.flk_text.specs.Numeral.{is_digit as digit_byte, number_from, AreDigits};
 ghost use Rattle.flk_text.specs.NumeralView.{numeral};
 ghost use Rattle.flk_text.specs.NumeralParts.{digits_of, after_digits, sign_of, fraction_of, exponent_of, numeral_of, whole_of};
 
@@ -21,8 +21,8 @@ pub struct NumeralParts<'a> {
     pub left: u32,
 }
 
-/// Whether the byte is a digit.
-fn is_digit(byte: u8) -> bool
+/// Whether the byte is a digit, `0` to `9`.
+pub fn is_digit(byte: u8) -> bool
     ensures { result ≡ digit_byte byte }
 {
     b'0' <= byte && byte <= b'9'

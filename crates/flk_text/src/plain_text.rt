@@ -1,6 +1,6 @@
 //! The plain text of a decimal.
 
-ghost use Rattle.std.specs.Prelude.{◌≡◌, ◌+◌, ◌<◌, ◌≤◌, ◌^◌, ◌++◌, ◌∷◌, [], OnOk, OnErr, vec_len, vec_capacity, decimal};
+ghost use Rattle.std.specs.Prelude.{◌≡◌, ◌+◌, ◌<◌, ◌≤◌, ◌^◌, ◌++◌, OnOk, OnErr, vec_len, vec_capacity, decimal};
 ghost use Rattle.flk_text.specs.PlainText.{places_below, fraction_text, plain_size, plain};
 
 use crate::DecimalValue;
@@ -46,8 +46,8 @@ fn push_size(out: &mut Vec<u8>, size: u128)
     push_fraction(out, size % UNITS);
 }
 
-/// Appends the digits of a whole part.
-fn push_whole(out: &mut Vec<u8>, whole: u64)
+/// Appends the digits of a whole number below 10^15, without leading zeros and at least `0`, to bytes that have room for 15 more.
+pub fn push_whole(out: &mut Vec<u8>, whole: u64)
     requires small { whole < 10 ^ 15 }
     requires room { vec_len out.old + 15 ≤ vec_capacity out.old }
     ensures text { out.new.items ≡ out.old.items ++ decimal whole }

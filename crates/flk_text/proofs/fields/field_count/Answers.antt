@@ -1,7 +1,8 @@
 use Rattle.std.proofs.Common.{◌≡◌, ap, take, arith}
 use Rattle.std.specs.List.{count_by}
+use Rattle.std.proofs.lemmas.List.{take_all}
 use Rattle.flk_text.specs.Lines.{is_byte}
-use Rattle.flk_text.proofs.FieldLemmas.{take_all, fields_count}
+use Rattle.flk_text.proofs.FieldLemmas.{fields_count}
 use Rattle.flk_text.proofs.fields.field_count.Goals as goal
 
 pub returns : goal.returns
