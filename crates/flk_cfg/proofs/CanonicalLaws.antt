@@ -1,9 +1,10 @@
 -- The canonical text of a configuration writes that configuration.
-use Rattle.std.proofs.Common.{◌≡◌, ℕ, zero, suc, ◌+◌, ◌-◌, ◌*◌, ◌^◌, ◌<◌, ◌≤◌, Bool, true, false, cond, List, [], ◌∷◌, ◌++◌, length, get_or, drop, refl, ap, subst, ◌∙◌, arith, inl, inr, ℤ, length-append}
+use Rattle.std.proofs.Common.{◌≡◌, ℕ, zero, suc, ◌+◌, ◌-◌, ◌*◌, ◌^◌, ◌<◌, ◌≤◌, false, cond, List, [], ◌∷◌, ◌++◌, length, get_or, drop, refl, ap, subst, ◌∙◌, arith, inl, inr, ℤ, length-append}
 use Rattle.std.specs.Prelude.{codes, All}
 use Rattle.std.specs.Fmt.{decimal}
 use Rattle.std.proofs.lemmas.Fmt.{decimal_digit}
-use Rattle.std.proofs.lemmas.List.{get_or_append_left, get_or-append-add}
+use Rattle.std.proofs.lemmas.List.{drop_all, get_or_append_left, get_or-append-add}
+use Rattle.std.proofs.lemmas.List.Elements.{All-head, All-tail}
 use Rattle.flk_text.specs.Numeral.{Numeral, IsNumeral}
 use Rattle.flk_text.specs.Decimal.{IsDecimal, IsInSet}
 use Rattle.flk_text.specs.PlainText.{plain}
@@ -21,14 +22,10 @@ use Rattle.flk_cfg.specs.declared.config.Config.{Config}
 use Rattle.flk_cfg.specs.declared.config.Form.{Form}
 use Rattle.flk_cfg.specs.declared.config.Form.TheVariants.{Ascii, Binary}
 use Rattle.flk_cfg.proofs.WrittenLines.{IsCell, AreCells, AreLines, AreLines-append, has_line, has_last_line, no_tail}
-use Rattle.flk_cfg.proofs.WrittenFields.{IsFree, free_cell, free-append, free_plain, free_decimal, name_cell, name_is, whole_is, counted_is, side_is, side_free}
+use Rattle.flk_cfg.proofs.WrittenFields.{IsFree, free_cell, free-append, free_plain, free_decimal, name_cell, name_is, bit_small, whole_is, counted_is, side_is, side_free}
 use Rattle.flk_cfg.proofs.WrittenStamps.{stamp_is, date_free, time_free}
 
 -- ---- each line writes its values
-
-bit_most : (b : Bool) → cond b 1 0 ≤ 1
-bit_most true = omega arith
-bit_most false = omega arith
 
 title_is : (c : Config) → IsValid c → IsTitle (title_fields c) c.station c.device
 title_is c v = record { count = refl; station_is = name_is c.station v.station; device_is = name_is c.device v.device; revision = refl }
@@ -61,7 +58,7 @@ analog_is k c few v = record {
 
 digital_is : (k : ℕ) (c : Digital) → k ≤ 1000 → IsValidDigital c → IsDigital k (digital_fields k c) c
 digital_is k c few v =
-    let most = bit_most c.normal in
+    let most = bit_small c.normal in
     record {
       count = refl;
       position_is = whole_is k k k (omega arith) (omega arith) (omega (arith, few));
@@ -86,9 +83,6 @@ sampling_is : (n : ℕ) → 1 ≤ n → n < 2 ^ 32 → IsSampling (codes "2400" 
 sampling_is n some few = record { count = refl; rate = rate_is; samples = whole_is 1 (2 ^ 32 - 1) n some (omega (arith, few)) (omega (arith, few)) }
 
 -- ---- each line's fields stand as they are
-
-word_free : (ds : List ℕ) → IsFree ds → IsCell ds
-word_free ds free = free_cell ds free
 
 title_cells : (c : Config) → IsValid c → AreCells (title_fields c)
 title_cells c v =
@@ -142,7 +136,7 @@ analog_cells k c few v = (
 
 digital_cells : (k : ℕ) (c : Digital) → k ≤ 1000 → IsValidDigital c → AreCells (digital_fields k c)
 digital_cells k c few v =
-    let bit = free_cell _ (free_decimal (cond c.normal 1 0) (omega (arith, bit_most c.normal))) in
+    let bit = free_cell _ (free_decimal (cond c.normal 1 0) (omega (arith, bit_small c.normal))) in
     (free_cell _ (free_decimal k (omega (arith, few))), (name_cell c.id v.id, (name_cell c.ph v.ph, (name_cell c.ccbm v.ccbm, (bit, tt)))))
 
 form_cell : (form : Form) → IsCell (form_text form)
@@ -203,14 +197,12 @@ digital_at k (c ∷ cs) (suc i) none lt =
 analogs_are : (k : ℕ) (cs : List Analog) → k + length cs ≤ 1000 → All IsValidAnalog cs → AreLines (analog_lines k cs)
 analogs_are k [] few all = tt
 analogs_are k (c ∷ cs) few all =
-    let rest : All IsValidAnalog cs = λ i d lt. all (suc i) d (omega (arith, lt)) in
-    ((omega arith, analog_cells k c (omega (arith, few)) (all 0 c (omega arith))), analogs_are (k + 1) cs (omega (arith, few)) rest)
+    ((omega arith, analog_cells k c (omega (arith, few)) (All-head IsValidAnalog c cs all)), analogs_are (k + 1) cs (omega (arith, few)) (All-tail IsValidAnalog c cs all))
 
 digitals_are : (k : ℕ) (cs : List Digital) → k + length cs ≤ 1000 → All IsValidDigital cs → AreLines (digital_lines k cs)
 digitals_are k [] few all = tt
 digitals_are k (c ∷ cs) few all =
-    let rest : All IsValidDigital cs = λ i d lt. all (suc i) d (omega (arith, lt)) in
-    ((omega arith, digital_cells k c (omega (arith, few)) (all 0 c (omega arith))), digitals_are (k + 1) cs (omega (arith, few)) rest)
+    ((omega arith, digital_cells k c (omega (arith, few)) (All-head IsValidDigital c cs all)), digitals_are (k + 1) cs (omega (arith, few)) (All-tail IsValidDigital c cs all))
 
 -- ---- all lines
 
@@ -267,18 +259,12 @@ setting_line : (c : Config) (j k : ℕ) (r : List (List ℕ)) (is_so : List (Lis
 setting_line c j k r is_so are lt e at so =
     has_line (all_lines c) k r is_so are (omega (arith, lt, e, all_count c)) (ap (λ (n : ℕ). get_or (all_lines c) n []) e ∙ after_digitals c j ∙ at) so
 
-nothing_left : (rows : List (List (List ℕ))) (k : ℕ) → length rows ≤ k → drop k rows ≡ []
-nothing_left [] zero le = refl
-nothing_left [] (suc k) le = refl
-nothing_left (r ∷ rs) zero le = absurd (omega (arith, le))
-nothing_left (r ∷ rs) (suc k) le = nothing_left rs k (omega (arith, le))
-
 settings_written : (c : Config) → IsValid c → AreSettings (lines_text (all_lines c)) (2 + length c.analog + length c.digital) c
 settings_written c v =
     let k = 2 + length c.analog + length c.digital in
     let are = all_are c v in
     let last : k + 6 < length (all_lines c) = omega (arith, all_count c) in
-    let none : drop (suc (k + 6)) (all_lines c) ≡ [] = nothing_left (all_lines c) (suc (k + 6)) (omega (arith, all_count c)) in
+    let none : drop (suc (k + 6)) (all_lines c) ≡ [] = drop_all (suc (k + 6)) (all_lines c) (omega (arith, all_count c)) in
     let frequency : IsLineFrequency (plain c.lf.n ∷ []) c.lf.n = record { count = refl; value = record { value = plain_text c.lf.n v.lf; above = v.lf_above } } in
     let one : IsOneRate (codes "1" ∷ []) = record { count = refl; one = subst (λ (f : List ℕ). IsWholeFrom 1 1 f 1) (decimal_digit 1 (omega arith)) (whole_is 1 1 1 (omega arith) (omega arith) (omega arith)) } in
     let form : IsFileType (form_text c.form ∷ []) c.form = record { count = refl; word = form_is c.form } in

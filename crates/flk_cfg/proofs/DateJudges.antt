@@ -2,12 +2,12 @@
 use Rattle.std.proofs.Common.{◌≡◌, ℕ, ◌+◌, ◌-◌, ◌*◌, ◌^◌, ◌<◌, ◌≤◌, List, [], ◌∷◌, ◌++◌, length, true, false, cond, eqb, ltb, leb, ◌&&◌, Some, None, refl, sym, ap, subst, ◌∙◌, arith, inl, inr, ℤ, pos, ◌≤ℤ◌}
 use Rattle.std.specs.List.{list_all}
 use Rattle.std.proofs.lemmas.List.{nil_from_length, append-nil}
-use Rattle.std.proofs.lemmas.Bool.{cases_Bool, eqb-true, leb-true, ltb-true, le-leb, lt-ltb}
+use Rattle.std.proofs.lemmas.Bool.{cases_Bool, and_parts, eqb-true, leb-true, ltb-true, le-leb, lt-ltb}
 use Rattle.std.proofs.Math.Nat.{mul-le-mul_right}
 use Rattle.flk_text.specs.Numeral.{is_digit, number_from, AreDigits}
 use Rattle.flk_text.specs.NumeralParts.{◌>>=◌}
 use Rattle.flk_text.proofs.NumeralLemmas.{some_is, guard_some, bind_some}
-use Rattle.flk_text.proofs.DigitRuns.{both_true, number_small}
+use Rattle.flk_text.proofs.DigitRuns.{number_small}
 use Rattle.flk_text.proofs.PowersOfTen.{ten_pos, times_add}
 use Rattle.flk_cfg.specs.Dates.{IsNumber, IsDateText, IsDateForm, IsDateOf, IsSecondFraction, IsTimeText, IsTimeForm, IsTimeOf}
 use Rattle.std.proofs.lemmas.Int.{ints}
@@ -75,7 +75,7 @@ two_found [] x e = absurd cc
 two_found (a ∷ []) x e = absurd cc
 two_found (a ∷ b ∷ rest) x e =
     let g = guard_some (is_digit a && is_digit b) (Some (with_rest (number_from 0 (a ∷ b ∷ [])) rest)) x e in
-    let d = both_true (is_digit a) (is_digit b) g.0 in
+    let d = and_parts (is_digit a) (is_digit b) g.0 in
     cut_at 2 2 (a ∷ b ∷ rest) (number_from 0 (a ∷ b ∷ [])) rest x g.1 (record { digits = a ∷ b ∷ []; is = refl; number = both_is 2 a b (omega arith) d.0 d.1 })
 
 pub after_found : (mark : ℕ) (bytes rest : List ℕ) → after_of mark bytes ≡ Some rest → bytes ≡ mark ∷ rest
@@ -91,11 +91,11 @@ pub short_again : (ds rest : List ℕ) (n mark : ℕ) → IsNumber 1 2 ds n → 
 unfolding short_of
 short_again [] rest n mark is off = absurd (omega (arith, is.least_is))
 short_again (a ∷ []) rest n mark is off =
-    let d = both_true (is_digit a) true is.are in
+    let d = and_parts (is_digit a) true is.are in
     rw (d.0, off) (ap (λ (m : ℕ). Some (with_rest m (mark ∷ rest))) (sym is.value))
 short_again (a ∷ b ∷ []) rest n mark is off =
-    let d = both_true (is_digit a) (list_all is_digit (b ∷ [])) is.are in
-    let e = both_true (is_digit b) true d.1 in
+    let d = and_parts (is_digit a) (list_all is_digit (b ∷ [])) is.are in
+    let e = and_parts (is_digit b) true d.1 in
     rw (d.0, e.0) (ap (λ (m : ℕ). Some (with_rest m (mark ∷ rest))) (sym is.value))
 short_again (a ∷ b ∷ c ∷ ds) rest n mark is off = absurd (omega (arith, is.most_is))
 
@@ -104,8 +104,8 @@ unfolding two_of
 two_again [] rest n is = absurd (omega (arith, is.least_is))
 two_again (a ∷ []) rest n is = absurd (omega (arith, is.least_is))
 two_again (a ∷ b ∷ []) rest n is =
-    let d = both_true (is_digit a) (list_all is_digit (b ∷ [])) is.are in
-    let e = both_true (is_digit b) true d.1 in
+    let d = and_parts (is_digit a) (list_all is_digit (b ∷ [])) is.are in
+    let e = and_parts (is_digit b) true d.1 in
     rw (d.0, e.0) (ap (λ (m : ℕ). Some (with_rest m rest)) (sym is.value))
 two_again (a ∷ b ∷ c ∷ ds) rest n is = absurd (omega (arith, is.most_is))
 
@@ -118,10 +118,10 @@ year_again (a ∷ []) n is = absurd (omega (arith, is.least_is))
 year_again (a ∷ b ∷ []) n is = absurd (omega (arith, is.least_is))
 year_again (a ∷ b ∷ c ∷ []) n is = absurd (omega (arith, is.least_is))
 year_again (a ∷ b ∷ c ∷ d ∷ []) n is =
-    let h = both_true (is_digit a) (list_all is_digit (b ∷ c ∷ d ∷ [])) is.are in
-    let i = both_true (is_digit b) (list_all is_digit (c ∷ d ∷ [])) h.1 in
-    let j = both_true (is_digit c) (list_all is_digit (d ∷ [])) i.1 in
-    let k = both_true (is_digit d) true j.1 in
+    let h = and_parts (is_digit a) (list_all is_digit (b ∷ c ∷ d ∷ [])) is.are in
+    let i = and_parts (is_digit b) (list_all is_digit (c ∷ d ∷ [])) h.1 in
+    let j = and_parts (is_digit c) (list_all is_digit (d ∷ [])) i.1 in
+    let k = and_parts (is_digit d) true j.1 in
     (a ∷ b ∷ [], c ∷ d ∷ [], number_from 0 (a ∷ b ∷ []), number_from 0 (c ∷ d ∷ []), refl, both_is 2 a b (omega arith) h.0 i.0, both_is 2 c d (omega arith) j.0 k.0, omega (arith, is.value))
 year_again (a ∷ b ∷ c ∷ d ∷ e ∷ ds) n is = absurd (omega (arith, is.most_is))
 
@@ -131,8 +131,8 @@ year_cut (a ∷ []) ys p q c y = absurd (omega (arith, c.least_is))
 year_cut (a ∷ b ∷ []) [] p q c y = absurd (omega (arith, y.least_is))
 year_cut (a ∷ b ∷ []) (d ∷ []) p q c y = absurd (omega (arith, y.least_is))
 year_cut (a ∷ b ∷ []) (d ∷ e ∷ []) p q c y =
-    let h = both_true (is_digit a) (list_all is_digit (b ∷ [])) c.are in
-    let i = both_true (is_digit b) true h.1 in
+    let h = and_parts (is_digit a) (list_all is_digit (b ∷ [])) c.are in
+    let i = and_parts (is_digit b) true h.1 in
     record { are = rw (h.0, i.0) y.are; least_is = omega arith; most_is = omega arith; value = omega (arith, c.value, y.value) }
 year_cut (a ∷ b ∷ []) (d ∷ e ∷ f ∷ ys) p q c y = absurd (omega (arith, y.most_is))
 year_cut (a ∷ b ∷ d ∷ cs) ys p q c y = absurd (omega (arith, c.most_is))
@@ -188,8 +188,8 @@ nanos_found [] n e = inl (refl, sym (some_is 0 n e))
 nanos_found (b ∷ ds) n e =
     let g = guard_some (eqb b 46) (cond ((list_all is_digit ds && ltb 0 (length ds)) && leb (length ds) 9) (Some (number_from 0 ds * 10 ^ (9 - length ds))) None) n e in
     let h = guard_some ((list_all is_digit ds && ltb 0 (length ds)) && leb (length ds) 9) (Some (number_from 0 ds * 10 ^ (9 - length ds))) n g.1 in
-    let t = both_true (list_all is_digit ds && ltb 0 (length ds)) (leb (length ds) 9) h.0 in
-    let u = both_true (list_all is_digit ds) (ltb 0 (length ds)) t.0 in
+    let t = and_parts (list_all is_digit ds && ltb 0 (length ds)) (leb (length ds) 9) h.0 in
+    let u = and_parts (list_all is_digit ds) (ltb 0 (length ds)) t.0 in
     let some : 0 < length ds = ltb-true 0 (length ds) u.1 in
     let few : length ds ≤ 9 = leb-true (length ds) 9 t.1 in
     inr (

@@ -1,15 +1,11 @@
 -- What the judges of single fields answer.
-use Rattle.std.proofs.Common.{◌≡◌, ◌≢◌, ℕ, List, subst, arith, ℤ, pos, ◌≤ℤ◌, Ok}
+use Rattle.std.proofs.Common.{◌≡◌, ◌≢◌, ℕ, List, subst, arith, ℤ, pos, ◌≤ℤ◌}
 use Rattle.std.proofs.lemmas.Int.{ints}
 use Rattle.flk_text.specs.Decimal.{IsDecimal, IsForm}
 use Rattle.flk_text.specs.WholeNumber.{IsWholeValue, IsWholeForm}
 use Rattle.flk_text.proofs.NumeralLemmas.{decimal_once}
-use Rattle.flk_text.proofs.DecimalLaws.{one_whole_answer}
+use Rattle.flk_text.proofs.DecimalLaws.{whole_once}
 use Rattle.flk_cfg.specs.Values.{IsWholeFrom, IsFrequency}
-
--- a text is of one whole number
-pub whole_once : (text : List ℕ) (y z : ℤ) → IsWholeValue text y → IsWholeValue text z → y ≡ z
-whole_once text y z a b = cc (one_whole_answer text (Ok y) (Ok z) a b)
 
 pub whole_form : (text : List ℕ) (z : ℤ) → IsWholeValue text z → IsWholeForm text
 whole_form text z v = (v.minus, v.size, v.spelled)

@@ -7,21 +7,19 @@ use Rattle.std.proofs.Math.Seq.{take-append_seam}
 use Rattle.flk_text.specs.Numeral.{Numeral, IsNumeral}
 use Rattle.flk_text.specs.Decimal.{IsForm}
 use Rattle.flk_text.proofs.NumeralLemmas.{decimal_once}
+use Rattle.flk_text.proofs.DecimalLaws.{whole_once}
 use Rattle.flk_cfg.specs.Values.{IsWholeFrom, EndsIn, IsCounted, IsDecimalOrZero, IsSide, IsBit, IsFormWord}
 use Rattle.flk_cfg.specs.Table.{Set, Text, Revision, Total, Counted, Position, Decimal, DecimalOrZero, Side, Bit, Frequency, OneRate, SamplingRate, SampleCount, Date, Time, FormWord, IsIn, Refuses, NoWhole}
 use Rattle.flk_cfg.specs.declared.kind.Kind.{Kind}
 use Rattle.flk_cfg.specs.declared.kind.Kind.TheVariants as kinds
 use Rattle.flk_cfg.specs.declared.config.Form.{Form}
 use Rattle.flk_cfg.specs.declared.config.Form.TheVariants.{Ascii, Binary}
-use Rattle.flk_cfg.proofs.FieldJudges.{whole_once, whole_form}
+use Rattle.flk_cfg.proofs.FieldJudges.{whole_form}
 
 -- ---- values
 
-same_pos : (n m : ℕ) → pos n ≡ pos m → n ≡ m
-same_pos n m e = cc
-
 pub whole_from_once : (least most : ℕ) (f : List ℕ) (n m : ℕ) → IsWholeFrom least most f n → IsWholeFrom least most f m → n ≡ m
-whole_from_once least most f n m a b = same_pos n m (whole_once f (pos n) (pos m) a.value b.value)
+whole_from_once least most f n m a b = cc (whole_once f (pos n) (pos m) a.value b.value)
 
 pub ends_once : (capital : ℕ) (f x y : List ℕ) → EndsIn capital f x → EndsIn capital f y → x ≡ y
 ends_once capital f x y a b =

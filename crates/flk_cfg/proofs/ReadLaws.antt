@@ -1,6 +1,6 @@
 -- The values that the bytes of a file write are in their sets.
-use Rattle.std.proofs.Common.{◌≡◌, ◌≢◌, ℕ, zero, suc, ◌+◌, ◌-◌, ◌*◌, ◌^◌, ◌<◌, ◌≤◌, ◌≤ℤ◌, Bool, true, false, eqb, List, [], ◌∷◌, length, get_or, take, drop, map, reverse, refl, sym, ap, subst, ◌∙◌, arith, inl, inr, ℤ, pos}
-use Rattle.std.specs.Prelude.{not, All, unsigned_abs}
+use Rattle.std.proofs.Common.{◌≡◌, ◌≢◌, ℕ, zero, suc, ◌+◌, ◌-◌, ◌*◌, ◌^◌, ◌<◌, ◌≤◌, ◌≤ℤ◌, true, false, eqb, List, [], ◌∷◌, length, get_or, take, drop, map, reverse, refl, sym, ap, subst, ◌∙◌, arith, inl, inr, ℤ, pos, one-add}
+use Rattle.std.specs.Prelude.{not, All}
 use Rattle.std.specs.List.{list_all, slice_split, onto_first, prefix_len, suffix_len}
 use Rattle.std.proofs.lemmas.Int.{ints}
 use Rattle.std.proofs.lemmas.Bool.{and_parts, and_from, not-true, ne_eqb, eqb-false, cases_Bool, cases_lt}
@@ -8,11 +8,11 @@ use Rattle.std.proofs.lemmas.List.{get_or-take, get_or-reverse, length-take, len
 use Rattle.std.proofs.lemmas.List.Sums.{prefix_len_stops}
 use Rattle.std.proofs.lemmas.List.Splits.{slice_split-cons_yes, slice_split-cons_no}
 use Rattle.std.proofs.Math.Nat.{mul-le-mul_right}
-use Rattle.flk_text.specs.Decimal.{IsDecimal, IsInSet, signed}
 use Rattle.flk_text.specs.Lines.{is_byte, Lacks, line_of}
 use Rattle.flk_text.specs.Fields.{trimmed, trimmed_front, trimmed_back, fields}
 use Rattle.flk_text.proofs.PowersOfTen.{ten_pos, times_add}
 use Rattle.flk_text.proofs.DigitRuns.{number_small}
+use Rattle.flk_text.proofs.DecimalLaws.{value_in_set}
 use Rattle.flk_text.proofs.LineLaws.{no_lf_in_line}
 use Rattle.flk_cfg.specs.Values.{is_text_byte, IsText, HasText, IsDecimalOrZero}
 use Rattle.flk_cfg.specs.Dates.{IsSecondFraction}
@@ -83,16 +83,13 @@ trimmed_without c (p ∷ ps) (suc i) h = trimmed_without c ps i h.1
 
 -- ---- no space at either end
 
-one_more : (n : ℕ) → 1 + n ≡ suc n
-one_more n = omega arith
-
 front_no : (xs : List ℕ) → get_or (trimmed_front xs) 0 0 ≢ 32
 front_no [] = λ e. omega (arith, e)
 front_no (x ∷ xs) =
     elim (cases_Bool (is_byte 32 x)) [
       | inl so ↦
           let all = x ∷ xs in
-          let count : prefix_len (is_byte 32) all ≡ suc (prefix_len (is_byte 32) xs) = rw so (one_more (prefix_len (is_byte 32) xs)) in
+          let count : prefix_len (is_byte 32) all ≡ suc (prefix_len (is_byte 32) xs) = rw so (one-add (prefix_len (is_byte 32) xs)) in
           let same : trimmed_front all ≡ trimmed_front xs = ap (λ (n : ℕ). drop n all) count in
           λ e. front_no xs (ap (λ (l : List ℕ). get_or l 0 0) (sym same) ∙ e)
       | inr off ↦
@@ -171,25 +168,14 @@ name_read rest parts place text is has =
 
 -- ---- numbers
 
-size_signed : (minus : Bool) (u : ℕ) → unsigned_abs (signed minus u) ≡ u
-size_signed false u = refl
-size_signed true zero = refl
-size_signed true (suc u) = refl
-
-value_read : (text : List ℕ) (z : ℤ) → IsDecimal text z → IsValue z
-value_read text z d = subst IsInSet (sym (ap unsigned_abs d.signed_is ∙ size_signed d.numeral.minus d.units)) d.inside
-
 nothing_value : IsValue (pos 0)
 nothing_value = record { m = 0; places = 0; is = refl; reduced = inl refl; digits = omega arith; most = omega arith }
 
 value_or_zero : (text : List ℕ) (z : ℤ) → IsDecimalOrZero text z → IsValue z
 value_or_zero text z (inl none) = subst IsValue (sym none.1) nothing_value
-value_or_zero text z (inr d) = value_read text z d
+value_or_zero text z (inr d) = value_in_set text z d
 
 -- ---- dates and times
-
-one_times : (n : ℕ) → 1 * n ≡ n
-one_times n = omega arith
 
 nanos_most : (digits k n nanos : ℕ) → digits + k ≡ 9 → n < 10 ^ digits → nanos ≡ n * 10 ^ k → nanos ≤ 999999999
 nanos_most digits k n nanos nine below is =
@@ -232,13 +218,13 @@ analog_read bytes k position c line =
       ph = name_read rest parts 3 c.ph is row.ph_is;
       ccbm = name_read rest parts 4 c.ccbm is row.ccbm_is;
       uu = name_read rest parts 5 c.uu is row.uu_is;
-      a = value_read (at parts 6) c.a.n row.a_is;
-      b = value_read (at parts 7) c.b.n row.b_is;
+      a = value_in_set (at parts 6) c.a.n row.a_is;
+      b = value_in_set (at parts 7) c.b.n row.b_is;
       skew = value_or_zero (at parts 8) c.skew.n row.skew_is;
-      min = value_read (at parts 9) c.min.n row.min_is;
-      max = value_read (at parts 10) c.max.n row.max_is;
-      primary = value_read (at parts 11) c.primary.n row.primary_is;
-      secondary = value_read (at parts 12) c.secondary.n row.secondary_is;
+      min = value_in_set (at parts 9) c.min.n row.min_is;
+      max = value_in_set (at parts 10) c.max.n row.max_is;
+      primary = value_in_set (at parts 11) c.primary.n row.primary_is;
+      secondary = value_in_set (at parts 12) c.secondary.n row.secondary_is;
       ps = row.ps_is.letter;
     }
 
@@ -265,11 +251,11 @@ read_is_valid bytes c f =
       analog = analog;
       digital_most = counts.digital_is.number.at_most;
       digital = digital;
-      lf = value_read (at settings.frequency.0 1) c.lf.n settings.frequency.2.value.value;
+      lf = value_in_set (at settings.frequency.0 1) c.lf.n settings.frequency.2.value.value;
       lf_above = settings.frequency.2.value.above;
       endsamp_some = settings.sampling.2.samples.at_least;
       endsamp_most = omega (arith, settings.sampling.2.samples.at_most);
       first = stamp_read settings.first.0 c.first settings.first.2;
       trigger = stamp_read settings.trigger.0 c.trigger settings.trigger.2;
-      timemult = value_read (at settings.last.0 1) c.timemult.n settings.last.2.value;
+      timemult = value_in_set (at settings.last.0 1) c.timemult.n settings.last.2.value;
     }

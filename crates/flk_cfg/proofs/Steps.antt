@@ -19,16 +19,14 @@ use Rattle.flk_cfg.specs.declared.config.Analog.{Analog}
 use Rattle.flk_cfg.specs.declared.config.Digital.{Digital}
 
 -- the exit of a `?` whose fault is passed on
-pub err_exit : {T : Type 0} (r : Result T Fault) (P : T → Type 0) (Q : Fault → Type 0) (f : Fault) → IsErrAnd r (λ y. y ≡ f) → Q f → MatchResult r P Q
-err_exit {T} r P Q f e q =
+pub err_exit : {T E : Type 0} (r : Result T E) (P : T → Type 0) (Q : E → Type 0) (f : E) → IsErrAnd r (λ y. y ≡ f) → Q f → MatchResult r P Q
+err_exit {T} {E} r P Q f e q =
     let p = err_from_is_err_and r e in
-    subst (λ (x : Result T Fault). MatchResult x P Q) (sym p.1) (subst Q (sym p.2) q)
+    subst (λ (x : Result T E). MatchResult x P Q) (sym p.1) (subst Q (sym p.2) q)
 
 -- the same with want of memory
 pub stop_exit : {T : Type 0} (r : Result T (Stop Fault)) (P : T → Type 0) (Q : Fault → Type 0) (s : Stop Fault) → IsErrAnd r (λ y. y ≡ s) → StopIs Q s → MatchResult r P (StopIs Q)
-stop_exit {T} r P Q s e q =
-    let p = err_from_is_err_and r e in
-    subst (λ (x : Result T (Stop Fault)). MatchResult x P (StopIs Q)) (sym p.1) (subst (StopIs Q) (sym p.2) q)
+stop_exit r P Q s e q = err_exit r P (StopIs Q) s e q
 
 pub stop_weaker : (P Q : Fault → Type 0) (s : Stop Fault) → StopIs P s → ((f : Fault) → P f → Q f) → StopIs Q s
 stop_weaker P Q (stop.Fault f) p h = h f p

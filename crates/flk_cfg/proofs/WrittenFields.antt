@@ -1,23 +1,23 @@
 -- The fields of the canonical text: each is a field as it stands, and it writes its value.
-use Rattle.std.proofs.Common.{◌≡◌, ℕ, zero, suc, ◌+◌, ◌-◌, ◌*◌, ◌/◌, ◌%◌, ◌^◌, ◌<◌, ◌≤◌, true, false, eqb, leb, List, [], ◌∷◌, ◌++◌, length, refl, sym, ap, subst, ◌∙◌, arith, inl, inr, ℤ, pos}
+use Rattle.std.proofs.Common.{◌≡◌, ℕ, zero, suc, ◌+◌, ◌-◌, ◌*◌, ◌/◌, ◌%◌, ◌^◌, ◌<◌, ◌≤◌, Bool, true, false, cond, eqb, List, [], ◌∷◌, ◌++◌, length, refl, sym, ap, subst, ◌∙◌, arith, inl, inr, ℤ, pos}
 use Rattle.std.specs.Prelude.{not, unsigned_abs}
 use Rattle.std.specs.List.{list_all}
 use Rattle.std.specs.Fmt.{decimal}
-use Rattle.std.proofs.lemmas.Bool.{and_parts, and_from, ne_eqb, true≢false, cases_lt, le-leb}
-use Rattle.std.proofs.Math.Nat.{mul-le-mul_right, mod-lt, div-add-mod'}
+use Rattle.std.proofs.lemmas.Bool.{and_parts, and_from, ne_eqb, true≢false}
+use Rattle.std.proofs.Math.Nat.{mod-lt, div-add-mod'}
 use Rattle.flk_text.specs.Numeral.{is_digit, AreDigits, number_from}
 use Rattle.flk_text.specs.Decimal.{IsInSet}
 use Rattle.flk_text.specs.WholeNumber.{IsWhole, IsWholeValue}
 use Rattle.flk_text.specs.PlainText.{plain}
 use Rattle.flk_text.specs.Lines.{Lacks}
 use Rattle.flk_text.proofs.PowersOfTen.{ten_more, ten_pos}
-use Rattle.flk_text.proofs.PlainTextLemmas.{plain_text, decimal_writes}
-use Rattle.flk_text.proofs.WrittenLaws.{stays, lacks_stays, IsApart, comma_apart, space_apart, lf_apart, numeral_lacks}
+use Rattle.flk_text.proofs.PlainTextLemmas.{digit_is, digit_few, plain_text, decimal_writes}
+use Rattle.flk_text.proofs.WrittenLaws.{stays, lacks_stays, digits_lack, lacks-append, IsApart, comma_apart, space_apart, lf_apart, numeral_lacks}
 use Rattle.flk_cfg.specs.Values.{IsText, HasText, IsWholeFrom, EndsIn, IsCounted, IsSide, is_text_byte}
 use Rattle.flk_cfg.specs.Dates.{IsNumber}
 use Rattle.flk_cfg.specs.Valid.{is_name_byte, IsName, IsSideLetter}
 use Rattle.flk_cfg.specs.Canonical.{padded}
-use Rattle.flk_cfg.proofs.WrittenLines.{IsCell, lacks-append}
+use Rattle.flk_cfg.proofs.WrittenLines.{IsCell}
 
 -- ---- texts without comma, space, LF and 1A
 
@@ -37,13 +37,6 @@ free-append a b p q = record {
   lf = lacks-append 10 a b p.lf q.lf;
   mark = lacks-append 26 a b p.mark q.mark;
 }
-
-digits_lack : (c : ℕ) (ds : List ℕ) → is_digit c ≡ false → AreDigits ds → Lacks c ds
-digits_lack c [] off are = refl
-digits_lack c (d ∷ ds) off are =
-    let p = and_parts (is_digit d) (list_all is_digit ds) are in
-    let other : eqb d c ≡ false = ne_eqb d c (λ e. true≢false (sym p.0 ∙ ap is_digit e ∙ off)) in
-    rw other (digits_lack c ds off p.1)
 
 pub free_digits : (ds : List ℕ) → AreDigits ds → IsFree ds
 free_digits ds are = record { comma = digits_lack 44 ds refl are; space = digits_lack 32 ds refl are; lf = digits_lack 10 ds refl are; mark = digits_lack 26 ds refl are }
@@ -99,6 +92,10 @@ name_is f name = let text : IsText f = record { few = name.few; plain = text_byt
 
 -- ---- whole numbers
 
+pub bit_small : (b : Bool) → cond b 1 0 ≤ 1
+bit_small true = omega arith
+bit_small false = omega arith
+
 pub whole_is : (least most n : ℕ) → least ≤ n → n ≤ most → n ≤ 10 ^ 12 → IsWholeFrom least most (decimal n) n
 whole_is least most n low high few =
     let w = decimal_writes n (omega (arith, few)) in
@@ -126,19 +123,6 @@ side_free b (inr (inr (inl e))) = same_free b 83 e (record { comma = refl; space
 side_free b (inr (inr (inr e))) = same_free b 115 e (record { comma = refl; space = refl; lf = refl; mark = refl })
 
 -- ---- digits with zeros in front
-
-digit_is : (d : ℕ) → d ≤ 9 → is_digit (48 + d) ≡ true
-digit_is d few = and_from (leb 48 (48 + d)) (leb (48 + d) 57) (le-leb 48 (48 + d) (omega arith)) (le-leb (48 + d) 57 (omega (arith, few)))
-
-digit_few : (f k : ℕ) → f < 10 ^ suc k → f / 10 ^ k ≤ 9
-digit_few f k lt =
-    let cut : f / 10 ^ k * 10 ^ k + f % 10 ^ k ≡ f = div-add-mod' f (10 ^ k) in
-    elim (cases_lt (f / 10 ^ k) 10) [
-      | inl less ↦ omega (arith, less)
-      | inr big ↦
-          let grow : 10 * 10 ^ k ≤ f / 10 ^ k * 10 ^ k = mul-le-mul_right (10 ^ k) big in
-          absurd (omega (arith, cut, grow, lt, ten_more k))
-    ]
 
 -- so many digits, which write the number behind those of m
 pub record ArePadded (k m n : ℕ) (ds : List ℕ) : Type 0 where

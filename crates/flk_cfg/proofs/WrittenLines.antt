@@ -1,19 +1,15 @@
 -- The lines of a written text are read back: their fields, and the end of the last one.
-use Rattle.std.proofs.Common.{◌≡◌, ℕ, zero, suc, ◌+◌, ◌-◌, ◌<◌, eqb, List, [], ◌∷◌, ◌++◌, length, get_or, take, drop, refl, sym, ap, subst, ◌∙◌, arith, length-append, append_assoc, append-nil, false}
+use Rattle.std.proofs.Common.{◌≡◌, ℕ, zero, suc, ◌+◌, ◌<◌, eqb, List, [], ◌∷◌, ◌++◌, length, get_or, take, drop, refl, sym, ap, subst, ◌∙◌, arith, length-append, append_assoc, append-nil, one-add, false}
 use Rattle.std.specs.Prelude.{not, All}
 use Rattle.std.specs.List.{list_all, position_or_len, before_first}
-use Rattle.std.proofs.lemmas.Bool.{and_parts, and_from, not-true}
-use Rattle.std.proofs.lemmas.List.Folds.{list_all-append}
-use Rattle.std.proofs.Math.Seq.{take-append_seam, drop-append-add, get_or-append_seam}
+use Rattle.std.proofs.lemmas.Bool.{and_parts, not-true}
+use Rattle.std.proofs.Math.Seq.{take-append_seam, drop-append-add}
 use Rattle.flk_text.specs.Lines.{Lacks, without_cr, line_of, after_line, ends_last_line, last_line_of, without_lf, tail_of}
 use Rattle.flk_text.specs.Fields.{fields, joined_fields, IsField}
 use Rattle.flk_text.specs.Tail.{IsTail}
-use Rattle.flk_text.proofs.WrittenLaws.{fields_joined, line_of-written, after_line-written}
+use Rattle.flk_text.proofs.WrittenLaws.{lacks-append, cr_dropped, fields_joined, line_of-written, after_line-written}
 use Rattle.flk_cfg.specs.Places.{after_lines, IsLineAt, IsLastLineAt, HasLine, HasLastLine, tail_at}
 use Rattle.flk_cfg.specs.Canonical.{line_text, lines_text}
-
-pub lacks-append : (c : ℕ) (a b : List ℕ) → Lacks c a → Lacks c b → Lacks c (a ++ b)
-lacks-append c a b la lb = list_all-append (λ x. not (eqb x c)) a b ∙ and_from (list_all (λ x. not (eqb x c)) a) (list_all (λ x. not (eqb x c)) b) la lb
 
 -- a text that is a field as it stands in any line, the last one too
 pub record IsCell (f : List ℕ) : Type 0 where
@@ -34,7 +30,7 @@ pub AreLines-append : (xs ys : List (List (List ℕ))) → AreLines xs → AreLi
 AreLines-append [] ys a b = b
 AreLines-append (x ∷ xs) ys a b = (a.0, AreLines-append xs ys a.1 b)
 
-cell_at : (fs : List (List ℕ)) (k : ℕ) (d : List ℕ) → AreCells fs → k < length fs → IsField (get_or fs k d)
+pub cell_at : (fs : List (List ℕ)) (k : ℕ) (d : List ℕ) → AreCells fs → k < length fs → IsField (get_or fs k d)
 cell_at [] k d cells lt = absurd (omega (arith, lt))
 cell_at (f ∷ fs) zero d cells lt = cells.0.field
 cell_at (f ∷ fs) (suc k) d cells lt = cell_at fs k d cells.1 (omega (arith, lt))
@@ -42,7 +38,7 @@ cell_at (f ∷ fs) (suc k) d cells lt = cell_at fs k d cells.1 (omega (arith, lt
 are_fields : (fs : List (List ℕ)) → AreCells fs → All IsField fs
 are_fields fs cells = λ k d lt. cell_at fs k d cells lt
 
-joined_lacks : (c : ℕ) (fs : List (List ℕ)) → Lacks c (44 ∷ []) → ((f : List ℕ) → IsCell f → Lacks c f) → AreCells fs → Lacks c (joined_fields fs)
+pub joined_lacks : (c : ℕ) (fs : List (List ℕ)) → Lacks c (44 ∷ []) → ((f : List ℕ) → IsCell f → Lacks c f) → AreCells fs → Lacks c (joined_fields fs)
 joined_lacks c [] comma of cells = refl
 joined_lacks c (f ∷ []) comma of cells = of f cells.0
 joined_lacks c (f ∷ g ∷ gs) comma of cells =
@@ -95,15 +91,6 @@ has_line rows k r is_so are lt e so =
 
 -- ---- the last line
 
-cr_dropped : (line : List ℕ) → without_cr (line ++ (13 ∷ [])) ≡ line
-cr_dropped line =
-    let last : length (line ++ (13 ∷ [])) - 1 ≡ length line = omega (arith, length-append line (13 ∷ [])) in
-    let cr : get_or (line ++ (13 ∷ [])) (length line) 0 ≡ 13 = get_or-append_seam line 13 [] 0 in
-    rw (last, cr) (take-append_seam line (13 ∷ []))
-
-one_more : (n : ℕ) → 1 + n ≡ suc n
-one_more n = omega arith
-
 end_place : (line rest : List ℕ) → Lacks 10 line → Lacks 26 line → position_or_len ends_last_line (line ++ (10 ∷ rest)) ≡ length line
 end_place [] rest lf mark = refl
 end_place (x ∷ xs) rest lf mark =
@@ -111,7 +98,7 @@ end_place (x ∷ xs) rest lf mark =
     let q = and_parts (not (eqb x 26)) (list_all (λ b. not (eqb b 26)) xs) mark in
     let off : eqb x 10 ≡ false = not-true (eqb x 10) p.0 in
     let out : eqb x 26 ≡ false = not-true (eqb x 26) q.0 in
-    rw (off, out) (ap (λ (n : ℕ). 1 + n) (end_place xs rest p.1 q.1) ∙ one_more (length xs))
+    rw (off, out) (ap (λ (n : ℕ). 1 + n) (end_place xs rest p.1 q.1) ∙ one-add (length xs))
 
 last_written : (line : List ℕ) → Lacks 10 line → Lacks 26 line → (last_line_of (line ++ (13 ∷ 10 ∷ [])) ≡ line) × (tail_of (line ++ (13 ∷ 10 ∷ [])) ≡ [])
 last_written line lf mark =

@@ -1,4 +1,4 @@
--- What the parts of the reader keep and answer. Only proofs use this file: `File` says what a configuration is.
+-- What the parts of the reader keep and answer. Contracts of private functions cite this file: `File` says what a configuration is.
 use Rattle.std.specs.Prelude.{◌≡◌, ◌≢◌, ℕ, ◌+◌, ◌<◌, ◌⊎◌, List, map, take, length}
 use Rattle.flk_num.specs.declared.stop.Stop.{Stop}
 use Rattle.flk_num.specs.declared.stop.Stop.TheVariants as stop

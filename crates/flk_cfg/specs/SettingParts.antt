@@ -1,4 +1,4 @@
--- The lines between those of the channels and the last one, as the reader takes them. Only proofs use this file.
+-- The lines between those of the channels and the last one, as the reader takes them. Contracts of private functions cite this file.
 use Rattle.std.specs.Prelude.{ℕ, ◌+◌, List, [], get_or}
 use Rattle.flk_cfg.specs.Table.{Set, setting_rows}
 use Rattle.flk_cfg.specs.Rows.{IsLineFrequency, IsOneRate, IsSampling, IsStamp, IsFileType}

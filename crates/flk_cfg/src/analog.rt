@@ -1,16 +1,14 @@
 //! The lines of the analog channels.
 
 ghost use Rattle.std.specs.Prelude.{◌≡◌, ◌+◌, ◌<◌, ◌≤◌, ℕ, List as Sequence, length, OnOk, MatchResult};
-ghost use Rattle.flk_text.specs.Decimal.{IsDecimal};
-ghost use Rattle.flk_cfg.specs.Values.{IsText, IsWholeFrom, IsDecimalOrZero, IsSide};
-ghost use Rattle.flk_cfg.specs.Table.{LineFault, analog_row, Text, Decimal, DecimalOrZero, at as part_at};
+ghost use Rattle.flk_cfg.specs.Table.{LineFault, analog_row};
 ghost use Rattle.flk_cfg.specs.Rows.{IsAnalog};
 ghost use Rattle.flk_cfg.specs.File.{AreAnalogs};
 ghost use Rattle.flk_cfg.specs.Places.{HasLine, FaultAt};
 ghost use Rattle.flk_cfg.specs.Runs.{names_run, numbers_run, AreNames, AreNumbers, AreAnalogParts};
 ghost use Rattle.flk_cfg.specs.Reading.{parts_of, RunFault, StandsAt, StopIs, FirstOf};
 
-use crate::columns::Columns;
+use crate::columns::{ANALOG_FIELDS, Columns};
 use crate::config::Analog;
 use crate::kind::Fault;
 use crate::reader::Reader;
@@ -79,7 +77,7 @@ fn read_analog(alloc: Global, position: u32, reader: &mut Reader<'_>) -> Result<
     ensures channel { (bytes : Sequence ℕ) (k : ℕ) → StandsAt reader.old bytes k → MatchResult result (λ c. HasLine bytes k (λ parts. IsAnalog position parts c))
         (λ s. StopIs (λ f. (f.line ≡ k + 1) × FaultAt bytes k (LineFault (analog_row position)) f.field f.kind) s) }
 {
-    let columns = reader.columns(13)?;
+    let columns = reader.columns(ANALOG_FIELDS)?;
     let numbers = check_analog(position, &columns)?;
     Ok(Analog {
         id: List::from_slice(alloc, columns.field(2))?,

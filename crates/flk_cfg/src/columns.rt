@@ -1,10 +1,7 @@
 //! The fields of one line.
 
-ghost use Rattle.std.specs.Prelude.{◌≡◌, ◌≢◌, ◌<◌, ◌≤◌, ◌^◌, codes, length, MatchResult};
-ghost use Rattle.flk_text.specs.Decimal.{IsDecimal};
+ghost use Rattle.std.specs.Prelude.{◌≡◌, ◌≢◌, ◌<◌, ◌≤◌, ◌^◌, length, MatchResult};
 ghost use Rattle.flk_text.specs.Fields.{fields};
-ghost use Rattle.flk_cfg.specs.Dates.{IsDateOf, IsTimeOf};
-ghost use Rattle.flk_cfg.specs.Values.{IsText, IsWholeFrom, IsCounted, IsDecimalOrZero, IsFrequency, IsSide, IsBit, IsFormWord};
 ghost use Rattle.flk_cfg.specs.Table.{at as part_at};
 ghost use Rattle.flk_cfg.specs.Reading.{parts_of};
 ghost use Rattle.flk_cfg.specs.declared.kind.Kind.TheVariants as kinds;
@@ -12,15 +9,15 @@ ghost use Rattle.flk_cfg.specs.declared.kind.Kind.TheVariants as kinds;
 use crate::kind::{Fault, Kind};
 use flk_text::Fields;
 
-/// The most fields of a line of a configuration.
-const MOST: usize = 13;
+/// The fields of the line of an analog channel, which are the most of any line.
+pub const ANALOG_FIELDS: usize = 13;
 
 /// The number of a line, counted from 1, and its fields without the spaces at both their ends.
 #[derive(Clone, Copy)]
 pub struct Columns<'a> {
     pub line: u32,
     pub count: usize,
-    pub parts: [&'a [u8]; 13],
+    pub parts: [&'a [u8]; ANALOG_FIELDS],
 }
 
 impl<'a> Columns<'a> {
@@ -36,7 +33,7 @@ impl<'a> Columns<'a> {
             kind: Kind::Fields,
         };
         let mut left = Fields::new(line);
-        let mut parts = [&line[..0]; MOST];
+        let mut parts = [&line[..0]; ANALOG_FIELDS];
         for place in 0..count {
             match left.next_field() {
                 Some(part) => parts[place] = part,

@@ -3,6 +3,12 @@
 use flk_num::List;
 use flk_text::DecimalValue;
 
+/// The most bytes of a text.
+pub const LONGEST_TEXT: usize = 64;
+
+/// The most channels of a kind.
+pub const MOST_CHANNELS: u32 = 256;
+
 /// The form of the data file.
 #[derive(Clone, Copy, Debug, PartialEq, Eq)]
 pub enum Form {

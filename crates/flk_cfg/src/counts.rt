@@ -7,6 +7,7 @@ ghost use Rattle.flk_cfg.specs.Table.{counts_row};
 ghost use Rattle.flk_cfg.specs.Reading.{parts_of, RunFault, StandsAt};
 
 use crate::columns::Columns;
+use crate::config::MOST_CHANNELS;
 use crate::kind::{Fault, Kind};
 use crate::reader::Reader;
 
@@ -24,8 +25,8 @@ fn check_counts(columns: &Columns<'_>) -> Result<Counts, Fault>
     ensures { MatchResult result (λ c. AreCounts (parts_of columns.now) c.total c.analog c.digital) (λ f. RunFault 1 counts_row columns.now f) }
 {
     let total = columns.total(1)?;
-    let analog = columns.counted(2, b'A', 1, 256)?;
-    let digital = columns.counted(3, b'D', 0, 256)?;
+    let analog = columns.counted(2, b'A', 1, MOST_CHANNELS)?;
+    let digital = columns.counted(3, b'D', 0, MOST_CHANNELS)?;
     Ok(Counts {
         total,
         analog,

@@ -9,7 +9,7 @@ ghost use Rattle.flk_cfg.specs.DateParts.{short_of, two_of, after_of, date_of, n
 ghost use Rattle.flk_cfg.specs.Table.{Date as DateSet, Time as TimeSet, Refuses};
 
 use crate::kind::Kind;
-use flk_text::number_up_to;
+use flk_text::{is_digit, number_up_to};
 use jiff::civil::Date;
 
 /// The numbers of a date's text.
@@ -35,13 +35,6 @@ pub struct Day {
     pub year: i16,
     pub month: u8,
     pub day: u8,
-}
-
-/// Whether the byte is a digit.
-fn is_digit(byte: u8) -> bool
-    ensures { result ≡ digit_byte byte }
-{
-    b'0' <= byte && byte <= b'9'
 }
 
 /// One or two digits in front: their number, and what follows.
@@ -105,12 +98,11 @@ fn date_numbers(text: &[u8]) -> Option<DateNumbers>
     })
 }
 
-/// Whether the date is one of the calendar, in a year from 1 on.
-fn exists(year: i16, month: u8, day: u8) -> bool
-    requires small { (month < 100) × (day < 100) }
+/// Whether the date is one of the proleptic Gregorian calendar, in a year from 1 on.
+pub fn is_date(year: i16, month: u8, day: u8) -> bool
     ensures { IsTrue result ↔ ((pos 1 ≤ℤ year) × IsDate year (pos month) (pos day)) }
 {
-    year >= 1 && Date::new(year, month as i8, day as i8).is_ok()
+    year >= 1 && month < 100 && day < 100 && Date::new(year, month as i8, day as i8).is_ok()
 }
 
 /// The date that the field writes.
@@ -121,7 +113,7 @@ pub fn date(field: &[u8]) -> Result<Day, Kind>
         return Err(Kind::Number);
     };
     let year = numbers.year as i16;
-    if exists(year, numbers.month, numbers.day) {
+    if is_date(year, numbers.month, numbers.day) {
         Ok(Day {
             year,
             month: numbers.month,
@@ -196,11 +188,11 @@ fn time_numbers(text: &[u8]) -> Option<TimeNumbers>
     })
 }
 
-/// Whether the time is one of a day.
-fn is_of_a_day(time: &TimeNumbers) -> bool
-    ensures { IsTrue result ↔ ((time.now.hour ≤ 23) × (time.now.minute ≤ 59) × (time.now.second ≤ 59)) }
+/// Whether the hour, the minute and the second are those of a day: from 0 to 23, 59 and 59.
+pub fn is_of_a_day(hour: u8, minute: u8, second: u8) -> bool
+    ensures { IsTrue result ↔ ((hour ≤ 23) × (minute ≤ 59) × (second ≤ 59)) }
 {
-    time.hour <= 23 && time.minute <= 59 && time.second <= 59
+    hour <= 23 && minute <= 59 && second <= 59
 }
 
 /// The time of a day that the field writes.
@@ -210,7 +202,7 @@ pub fn time(field: &[u8]) -> Result<TimeNumbers, Kind>
     let Some(numbers) = time_numbers(field) else {
         return Err(Kind::Number);
     };
-    if is_of_a_day(&numbers) {
+    if is_of_a_day(numbers.hour, numbers.minute, numbers.second) {
         Ok(numbers)
     } else {
         Err(Kind::Range)

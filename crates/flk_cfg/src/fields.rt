@@ -1,13 +1,13 @@
 //! Single fields against the sets of the table.
 
-ghost use Rattle.std.specs.Prelude.{◌≡◌, ◌<◌, ◌≤◌, ◌^◌, ◌-◌, ◌*◌, ℕ, List, pos, length, codes, MatchResult, MatchOption, Err, Ok};
+ghost use Rattle.std.specs.Prelude.{◌≡◌, ◌<◌, ◌^◌, ◌-◌, ◌*◌, ℕ, List, codes, MatchResult, MatchOption, Err, Ok};
 ghost use Rattle.std.specs.List.{list_all};
 ghost use Rattle.flk_text.specs.Decimal.{IsDecimal};
 ghost use Rattle.flk_cfg.specs.Values.{is_text_byte as text_byte, IsText, IsWholeFrom, EndsIn, IsCounted, IsDecimalOrZero, IsFrequency, IsSide, IsBit, IsFormWord};
 ghost use Rattle.flk_cfg.specs.Table.{Text, Revision, Total, Counted, Position, Decimal, DecimalOrZero, Side, Bit, Frequency, OneRate, SamplingRate, SampleCount, FormWord, NoWhole, Refuses, rate_units};
 ghost use Rattle.flk_cfg.specs.declared.kind.Kind.TheVariants as kinds;
 
-use crate::config::Form;
+use crate::config::{Form, LONGEST_TEXT};
 use crate::kind::Kind;
 use flk_text::{DecimalValue, NumFault, decimal, whole};
 
@@ -31,7 +31,7 @@ fn are_text_bytes(bytes: &[u8]) -> bool
 pub fn text(field: &[u8]) -> Result<(), Kind>
     ensures { MatchResult result (λ _. IsText field.now) (λ kind. Refuses Text field.now kind) }
 {
-    if field.len() > 64 {
+    if field.len() > LONGEST_TEXT {
         return Err(Kind::Length);
     }
     if are_text_bytes(field) {

@@ -1,6 +1,6 @@
 //! The whole configuration file.
 
-ghost use Rattle.std.specs.Prelude.{◌≡◌, MatchResult};
+ghost use Rattle.std.specs.Prelude.{MatchResult};
 ghost use Rattle.flk_cfg.specs.File.{IsConfig, IsFirstFault, IsFileAnswer};
 ghost use Rattle.flk_cfg.specs.Reading.{StopIs};
 

@@ -5,7 +5,7 @@ ghost use Rattle.std.specs.Prelude.{◌≡◌, ◌<◌, ◌≤◌, ◌^◌, ◌-
 ghost use Rattle.flk_text.specs.Decimal.{IsDecimal};
 ghost use Rattle.flk_cfg.specs.Dates.{IsDateOf, IsTimeOf};
 ghost use Rattle.flk_cfg.specs.Values.{IsText, IsWholeFrom, IsCounted, IsDecimalOrZero, IsFrequency, IsSide, IsBit, IsFormWord};
-ghost use Rattle.flk_cfg.specs.Table.{Text, Revision, Total, Counted, Position, Decimal, DecimalOrZero, Side, Bit, Frequency, OneRate, SamplingRate, SampleCount, Date as DateSet, Time as TimeSet, FormWord, IsIn, Refuses, rate_units, at as part_at};
+ghost use Rattle.flk_cfg.specs.Table.{Text, Revision, Total, Counted, Position, Decimal, DecimalOrZero, Side, Bit, Frequency, OneRate, SamplingRate, SampleCount, Date as DateSet, Time as TimeSet, FormWord, IsIn, rate_units, at as part_at};
 ghost use Rattle.flk_cfg.specs.Reading.{parts_of, FieldFault};
 
 use crate::columns::Columns;

@@ -2,8 +2,9 @@
 //!
 //! [`read_cfg`] reads a whole file: it answers the configuration that the bytes write, or their first fault. What a configuration
 //! is stands in `specs/`: `Values` and `Dates` say which field writes which value, `Table` has the set of each field and the rows,
-//! `Rows` the rows with their values, `Places` the lines by their place, and `File` the file and its first fault. The functions of
-//! [`laws`] have empty bodies: their contracts are laws of these definitions.
+//! `Rows` the rows with their values, `Places` the lines by their place, and `File` the file and its first fault. [`write_cfg`]
+//! writes a configuration's canonical text: `Valid` says which configurations have one, and `Canonical` which text it is. The functions
+//! of [`laws`] and [`canonical_laws`] have empty bodies: their contracts are laws of these definitions.
 //!
 //! Each line is cut into its fields once, and each field is read once.
 #![tactic(auto)]
@@ -35,8 +36,8 @@ pub use config::{Analog, Config, Digital, Form, Stamp};
 pub use file::read_cfg;
 pub use kind::{CfgFault, Fault, Kind};
 pub use laws::{
-    bytes_have_one_configuration, bytes_have_one_first_fault,
-    bytes_of_a_configuration_have_no_fault,
+    bytes_are_a_configuration_or_have_a_fault, bytes_have_one_configuration,
+    bytes_have_one_first_fault, bytes_of_a_configuration_have_no_fault,
 };
 pub use valid::valid_cfg;
 pub use write::write_cfg;

@@ -1,6 +1,6 @@
 //! The lines of the canonical text, appended to bytes.
 
-ghost use Rattle.std.specs.Prelude.{◌≡◌, ◌+◌, ◌%◌, ◌/◌, ◌<◌, ◌≤◌, ◌^◌, ◌++◌, ◌∷◌, [], length, cond, codes, OnOk, unsigned_abs, decimal};
+ghost use Rattle.std.specs.Prelude.{◌≡◌, ◌+◌, ◌%◌, ◌/◌, ◌<◌, ◌≤◌, ◌^◌, ◌++◌, ◌∷◌, [], length, codes, OnOk, unsigned_abs, decimal};
 ghost use Rattle.flk_text.specs.PlainText.{plain};
 ghost use Rattle.flk_cfg.specs.Canonical.{padded, date_text, second_digits, time_text, form_text, title_fields, counts_fields, analog_fields, digital_fields, analog_lines, digital_lines, stamp_fields, setting_lines, line_text, lines_text};
 ghost use Rattle.flk_cfg.specs.Valid.{IsValidStamp};

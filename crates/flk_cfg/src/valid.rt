@@ -1,20 +1,13 @@
 //! The configurations that a file can write.
 
-ghost use Rattle.std.specs.Prelude.{◌≡◌, ◌↔◌, ℕ, ◌*◌, ◌^◌, ◌<◌, ◌≤◌, ◌<ℤ◌, ◌≤ℤ◌, pos, length, All, IsTrue, true, false};
+ghost use Rattle.std.specs.Prelude.{◌≡◌, ◌↔◌, ℕ, ◌*◌, ◌^◌, ◌<◌, ◌≤◌, ◌<ℤ◌, pos, length, All, IsTrue, true, false};
 ghost use Rattle.std.specs.List.{list_all};
-ghost use Rattle.jiff.specs.Words.{IsDate};
 ghost use Rattle.flk_text.specs.DigitsRead.{IsLong};
 ghost use Rattle.flk_cfg.specs.Valid.{is_name_byte as is_name_byte_of, IsName, IsValue, IsSideLetter, IsValidStamp, IsValidAnalog, IsValidDigital, IsValid};
 
-use crate::config::{Analog, Config, Digital, Stamp};
+use crate::config::{Analog, Config, Digital, LONGEST_TEXT, MOST_CHANNELS, Stamp};
+use crate::date::{is_date, is_of_a_day};
 use flk_text::DecimalValue;
-use jiff::civil::Date;
-
-/// The length of the longest text.
-const LONGEST: usize = 64;
-
-/// The most channels of a kind.
-const MOST_CHANNELS: usize = 256;
 
 /// 10^12 in units of 10^-24.
 const GREATEST: u128 = 1_000_000_000_000_000_000_000_000_000_000_000_000;
@@ -43,9 +36,9 @@ fn has_channels(c: &Config) -> bool
     let analog = c.analog.as_slice();
     let digital = c.digital.as_slice();
     !analog.is_empty()
-        && analog.len() <= MOST_CHANNELS
+        && analog.len() <= MOST_CHANNELS as usize
         && all_analog(analog)
-        && digital.len() <= MOST_CHANNELS
+        && digital.len() <= MOST_CHANNELS as usize
         && all_digital(digital)
 }
 
@@ -170,17 +163,8 @@ fn is_stamp(stamp: &Stamp) -> bool
     ensures { IsTrue result ↔ IsValidStamp stamp.now }
 {
     is_date(stamp.year, stamp.month, stamp.day)
-        && stamp.hour <= 23
-        && stamp.minute <= 59
-        && stamp.second <= 59
+        && is_of_a_day(stamp.hour, stamp.minute, stamp.second)
         && stamp.nanos <= 999_999_999
-}
-
-/// Whether the date is one of the calendar from year 1 on.
-fn is_date(year: i16, month: u8, day: u8) -> bool
-    ensures { IsTrue result ↔ ((pos 1 ≤ℤ year) × IsDate year (pos month) (pos day)) }
-{
-    year >= 1 && month < 100 && day < 100 && Date::new(year, month as i8, day as i8).is_ok()
 }
 
 /// Whether the decimal is in the set.
@@ -210,7 +194,7 @@ fn is_short(number: u128) -> bool
 fn is_name(text: &[u8]) -> bool
     ensures { IsTrue result ↔ IsName text.now }
 {
-    text.len() <= LONGEST
+    text.len() <= LONGEST_TEXT
         && has_name_bytes(text)
         && !matches!(text.first(), Some(b' '))
         && !matches!(text.last(), Some(b' '))
