@@ -1,23 +1,21 @@
 -- Lines that come in pieces.
-use Rattle.std.proofs.Common.{◌≡◌, ◌≢◌, ◌⊎◌, ℕ, ◌+◌, ◌-◌, ◌<◌, ◌≤◌, Bool, true, false, cond, eqb, List, [], ◌∷◌, ◌++◌, length, get_or, take, drop, Option, refl, sym, ap, subst, ◌∙◌, arith, inl, inr, length-append, append_assoc, append-nil, length-take}
+use Rattle.std.proofs.Common.{◌≡◌, ℕ, ◌+◌, ◌-◌, ◌<◌, ◌≤◌, Bool, true, false, eqb, List, [], ◌∷◌, ◌++◌, length, get_or, take, Option, refl, sym, ap, subst, ◌∙◌, arith, inl, inr, append_assoc, length-take}
 use Rattle.std.specs.List.{list_all, count_by, position_or_len}
-use Rattle.std.proofs.lemmas.Bool.{cases_Bool, cases_lt, and_from, eqb-true, eq-eqb, ne_eqb, true≢false}
+use Rattle.std.proofs.lemmas.Bool.{cases_Bool, cases_lt, and_from, eqb-true, eq-eqb, true≢false}
 use Rattle.std.proofs.lemmas.List.{take_all}
 use Rattle.std.proofs.lemmas.List.Folds.{list_all-append}
 use Rattle.std.specs.Prelude.{not}
 use Rattle.flk_text.specs.Lines.{is_byte, without_cr}
-use Rattle.flk_text.specs.Tail.{IsTail}
 use Rattle.flk_cfg.specs.declared.config.Form.{Form}
 use Rattle.flk_cfg.specs.declared.config.Form.TheVariants.{Ascii}
 use Rattle.flk_dat.specs.Records.{DataRecord, Layout}
 use Rattle.flk_dat.specs.AsciiRecords.{longest_line, IsLine, LineFault, IsBlank}
-use Rattle.flk_dat.specs.DataFile.{line_at, StandsInFront, IsRecord, FaultInFront, RecordFault, MayFollow, longest_tail}
+use Rattle.flk_dat.specs.DataFile.{line_at, StandsInFront, IsRecord, FaultInFront, RecordFault, MayFollow}
 use Rattle.flk_dat.specs.Streams.{ends_line, IsUnended, MayBegin, IsPartOf}
 use Rattle.flk_dat.specs.Tails.{tail_after}
-use Rattle.flk_dat.specs.declared.tail.Tail.{Tail}
 use Rattle.flk_dat.specs.declared.kind.Kind.{Kind}
 use Rattle.flk_dat.specs.declared.kind.Kind.TheVariants as kinds
-use Rattle.flk_dat.proofs.LineEnds.{unended_before, line_ended, after_ended, mark_of, end_byte, line_unended, after_unended, ended_not_blank, spaces_blank, too_long, long_line, long_line_at, long_not_blank, short_line, after_by}
+use Rattle.flk_dat.proofs.LineEnds.{unended_before, line_ended, after_ended, mark_of, end_byte, line_unended, after_unended, ended_not_blank, long_line_at, long_not_blank, after_by}
 use Rattle.flk_dat.proofs.StreamLemmas.{after_front}
 
 -- ---- records and faults of an ASCII file

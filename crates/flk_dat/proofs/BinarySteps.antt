@@ -1,14 +1,14 @@
 -- BINARY records that come in pieces.
-use Rattle.std.proofs.Common.{◌≡◌, ◌≢◌, ◌⊎◌, ℕ, suc, ◌+◌, ◌-◌, ◌*◌, ◌/◌, ◌<◌, ◌≤◌, ◌^◌, ◌%◌, Bool, true, false, eqb, List, [], ◌∷◌, ◌++◌, length, get_or, take, drop, Option, Some, refl, sym, ap, subst, ◌∙◌, arith, inl, inr, length-append, length-drop, length-take, append_assoc, append-nil, ℤ, pos}
+use Rattle.std.proofs.Common.{◌≡◌, ℕ, ◌+◌, ◌-◌, ◌*◌, ◌/◌, ◌<◌, ◌≤◌, ◌^◌, ◌%◌, Bool, eqb, List, [], ◌∷◌, ◌++◌, length, get_or, take, drop, Option, Some, refl, sym, ap, subst, ◌∙◌, arith, inl, inr, length-append, length-drop, length-take, append_assoc}
 use Rattle.std.specs.Int.{w16, cast_signed}
-use Rattle.std.proofs.lemmas.List.{take_all, take_more, drop-append-le, take-append-drop}
+use Rattle.std.proofs.lemmas.List.{take_more, drop-append-le, take-append-drop}
 use Rattle.std.proofs.Math.Seq.{drop-append_seam}
 use Rattle.byteorder.specs.Endian.{little_number}
 use Rattle.byteorder.specs.Numbers.{little_from-append}
 use Rattle.flk_cfg.specs.declared.config.Form.{Form}
 use Rattle.flk_cfg.specs.declared.config.Form.TheVariants.{Binary}
 use Rattle.flk_dat.specs.Records.{DataRecord, Layout, Follows, IsPresent}
-use Rattle.flk_dat.specs.BinaryRecords.{record_size, number_of, stamp_of, value_of, word_of, bit_of, IsBinary, IsFirstMissing, WholeFault}
+use Rattle.flk_dat.specs.BinaryRecords.{record_size, number_of, stamp_of, value_of, word_of, IsBinary, WholeFault}
 use Rattle.flk_dat.specs.DataFile.{StandsInFront, IsRecord, FaultInFront, RecordFault, MayFollow}
 use Rattle.flk_dat.specs.Streams.{IsPartOf}
 use Rattle.flk_dat.specs.States.{layout}
@@ -100,11 +100,11 @@ binary_part l k bytes form e few = subst (λ (f : Form). IsPartOf f l k bytes) (
 
 -- the bytes of the reader's records
 abbrev pub size_of : Reader → ℕ
-size_of r = record_size (length r.row.selected.items) (length r.row.digital.items)
+size_of r = record_size (length r.channels.selected.items) r.channels.digital
 
 -- the bytes of the piece up to the record's end
 pub record_whole : (old : Reader) (piece : List ℕ) (n : ℕ) (r : DataRecord) → old.form ≡ Binary → length old.rest < size_of old → n ≡ size_of old - length old.rest → n ≤ length piece
-    → IsBinary (length old.row.selected.items) (length old.row.digital.items) (old.rest ++ take n piece) r → Follows old.before r.number → IsPresent Binary old.row.selected.items r → Whole old piece n [] r
+    → IsBinary (length old.channels.selected.items) old.channels.digital (old.rest ++ take n piece) r → Follows old.before r.number → IsPresent Binary old.channels.selected.items r → Whole old piece n [] r
 record_whole old piece n r form few due within b follows present =
     let some : 0 < n = omega (arith, few, due) in
     let before : n - 1 < length piece = omega (arith, some, within) in
@@ -115,12 +115,12 @@ record_whole old piece n r form few due within b follows present =
       some = some;
       within = within;
       here = λ held more. subst (λ (x : List ℕ). IsRecord (layout old) old.given x r) (append_assoc old.rest (take n piece) more)
-          (binary_record (layout old) old.given ((old.rest ++ take n piece) ++ more) r form (binary_more (length old.row.selected.items) (length old.row.digital.items) (old.rest ++ take n piece) more r b));
+          (binary_record (layout old) old.given ((old.rest ++ take n piece) ++ more) r form (binary_more (length old.channels.selected.items) old.channels.digital (old.rest ++ take n piece) more r b));
       after = λ held more.
           ap (λ (f : Form). after_front f (layout old) old.given (old.rest ++ (take n piece ++ more))) form
           ∙ ap (drop (size_of old)) (sym (append_assoc old.rest (take n piece) more)) ∙ ap (λ (k : ℕ). drop k ((old.rest ++ take n piece) ++ more)) (sym size) ∙ drop-append_seam (old.rest ++ take n piece) more;
       follows = follows;
-      present = subst (λ (f : Form). IsPresent f old.row.selected.items r) (sym form) present;
+      present = subst (λ (f : Form). IsPresent f old.channels.selected.items r) (sym form) present;
       front = take (n - 1) piece;
       byte = get_or piece (n - 1) 0;
       last = last;
@@ -128,7 +128,7 @@ record_whole old piece n r form few due within b follows present =
     }
 
 pub record_stops : (old : Reader) (piece : List ℕ) (n field : ℕ) (kind : Kind) → old.form ≡ Binary → length old.rest < size_of old → n ≡ size_of old - length old.rest → n ≤ length piece
-    → WholeFault old.row.selected.items old.before (old.rest ++ take n piece) field kind → IsHeld old old.rest → (more : List ℕ) → RecordFault (layout old) old.given old.before (old.rest ++ (piece ++ more)) field kind
+    → WholeFault old.channels.selected.items old.before (old.rest ++ take n piece) field kind → IsHeld old old.rest → (more : List ℕ) → RecordFault (layout old) old.given old.before (old.rest ++ (piece ++ more)) field kind
 record_stops old piece n field kind form few due within f held more =
     let size : length (old.rest ++ take n piece) ≡ size_of old = omega (arith, length-append old.rest (take n piece), length-take n piece, within, due, few) in
     let full : size_of old ≤ length (old.rest ++ take n piece) = omega (arith, size) in
@@ -137,7 +137,7 @@ record_stops old piece n field kind form few due within f held more =
     ap (λ (x : List ℕ). old.rest ++ (x ++ more)) (sym (take-append-drop n piece)) ∙ ap (λ (x : List ℕ). old.rest ++ x) (append_assoc (take n piece) (drop n piece) more) ∙ sym (append_assoc old.rest (take n piece) more2) in
     subst (λ (x : List ℕ). RecordFault (layout old) old.given old.before x field kind) (sym same)
     (binary_fault (layout old) old.given old.before ((old.rest ++ take n piece) ++ more2) field kind form (omega (arith, size, length-append (old.rest ++ take n piece) more2))
-    (whole_fault_more old.row.selected.items (length old.row.digital.items) old.before (old.rest ++ take n piece) more2 field kind full f))
+    (whole_fault_more old.channels.selected.items old.channels.digital old.before (old.rest ++ take n piece) more2 field kind full f))
 
 pub record_held : (old : Reader) (piece : List ℕ) → old.form ≡ Binary → length old.rest + length piece < size_of old → IsHeld old old.rest → IsHeld old (old.rest ++ piece)
 record_held old piece form few held = binary_part (layout old) old.given (old.rest ++ piece) old.form form (omega (arith, few, length-append old.rest piece))

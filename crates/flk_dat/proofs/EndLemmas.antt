@@ -1,21 +1,20 @@
 -- What the reader answers at the end of the input.
-use Rattle.std.proofs.Common.{◌≡◌, ◌≢◌, ◌⊎◌, ℕ, ◌+◌, ◌-◌, ◌<◌, ◌≤◌, Bool, true, false, eqb, List, [], ◌∷◌, ◌++◌, length, Option, Some, None, refl, sym, ap, subst, ◌∙◌, arith, inl, inr, length-append, append_assoc, append-nil}
+use Rattle.std.proofs.Common.{◌≡◌, ◌≢◌, ℕ, ◌+◌, ◌<◌, ◌≤◌, Bool, true, false, List, [], ◌∷◌, ◌++◌, length, Option, refl, sym, ap, subst, ◌∙◌, arith, inl, length-append, append-nil}
 use Rattle.std.specs.List.{list_all, count_by}
 use Rattle.std.proofs.lemmas.Bool.{and_parts}
 use Rattle.std.proofs.lemmas.Grind.{common_steps}
 use Rattle.std.proofs.lemmas.List.Folds.{list_all-append}
 use Rattle.flk_text.specs.Lines.{is_byte, without_cr}
-use Rattle.flk_text.specs.Tail.{IsTail, is_tail_byte}
+use Rattle.flk_text.specs.Tail.{is_tail_byte}
 use Rattle.flk_cfg.specs.declared.config.Form.{Form}
-use Rattle.flk_cfg.specs.declared.config.Form.TheVariants.{Ascii, Binary}
+use Rattle.flk_cfg.specs.declared.config.Form.TheVariants.{Ascii}
 use Rattle.flk_dat.specs.Records.{DataRecord, Rows, Layout, Follows, last_number, IsPresent, ArePresent}
 use Rattle.flk_dat.specs.AsciiRecords.{IsLine, LineFault}
 use Rattle.flk_dat.specs.DataFile.{after_records, IsRecord, RecordFault, MayFollow, AreFirst, IsAccepted, IsFaultAfter}
-use Rattle.flk_dat.specs.Streams.{HasGiven, added, Grows}
+use Rattle.flk_dat.specs.Streams.{added}
 use Rattle.flk_dat.specs.States.{layout, Stands}
-use Rattle.flk_dat.specs.Takings.{Keeps, Ends, Falls, Gives}
+use Rattle.flk_dat.specs.Takings.{Keeps, Ends, Falls}
 use Rattle.flk_dat.specs.declared.reader.Reader.{Reader}
-use Rattle.flk_dat.specs.declared.tail.Tail.{Tail}
 use Rattle.flk_dat.specs.declared.kind.Kind.{Kind}
 use Rattle.flk_dat.specs.declared.kind.Kind.TheVariants as kinds
 use Rattle.flk_dat.specs.declared.kind.Fault.{Fault}
@@ -46,7 +45,7 @@ spaces_fall old form spaces held =
     ascii_short (layout old) old.given old.before old.rest form (spaces_blank old.rest (ascii_part_is (layout old) old.given old.rest old.form form held).1 spaces)
 
 pub line_falls : (old : Reader) (field : ℕ) (kind : Kind) → old.form ≡ Ascii → list_all (is_byte 32) old.rest ≡ false
-    → LineFault old.row.selected.items (length old.row.digital.items) old.before (without_cr old.rest) field kind → IsHeld old old.rest → RecordFault (layout old) old.given old.before old.rest field kind
+    → LineFault old.channels.selected.items old.channels.digital old.before (without_cr old.rest) field kind → IsHeld old old.rest → RecordFault (layout old) old.given old.before old.rest field kind
 line_falls old field kind form off fault held =
     fault_in_rest (layout old) old.given old.before old.rest field kind form (ascii_part_is (layout old) old.given old.rest old.form form held).0 off fault
 
@@ -59,9 +58,9 @@ pub record LineGiven (old new : Reader) (before after : Rows) (r : DataRecord) :
   pub layout_same : layout new ≡ layout old
   pub count : new.given ≡ old.given + 1
   pub out : after ≡ record before { records = before.records ++ r ∷ [] }
-  pub line : IsLine (length old.row.selected.items) (length old.row.digital.items) (without_cr old.rest) r
+  pub line : IsLine (length old.channels.selected.items) old.channels.digital (without_cr old.rest) r
   pub follows : Follows old.before r.number
-  pub present : IsPresent Ascii old.row.selected.items r
+  pub present : IsPresent Ascii old.channels.selected.items r
 
 gained : (old new : Reader) (before after : Rows) (r : DataRecord) → LineGiven old new before after r → Keeps old new before after
 gained old new before after r g = record {
@@ -87,7 +86,7 @@ reached old new before after r taken given g s =
     let after_rest : after_front old.form l (length given) old.rest ≡ [] = subst (λ (k : ℕ). after_front old.form l k old.rest ≡ []) s.holds.count (after_at_end l old.given old.rest old.form g.form none) in
     record {
       first = first_more l taken given r first lt (subst (λ (b : List ℕ). IsRecord l (length given) b r) (sym left) here) (subst (λ (o : Option ℕ). Follows o r.number) s.holds.number g.follows);
-      present = present_more l given r s.has.present (subst (λ (f : Form). IsPresent f old.row.selected.items r) (sym g.form) g.present);
+      present = present_more l given r s.has.present (subst (λ (f : Form). IsPresent f old.channels.selected.items r) (sym g.form) g.present);
       left = after_next l (length given) taken lt ∙ ap (after_front old.form l (length given)) left ∙ after_rest;
     }
 

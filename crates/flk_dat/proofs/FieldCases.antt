@@ -1,37 +1,22 @@
 -- A field is in its set, or is refused with a kind.
-use Rattle.std.proofs.Common.{◌≡◌, ◌≢◌, ◌⊎◌, ℕ, zero, suc, ◌+◌, ◌^◌, ◌<◌, ◌≤◌, Bool, true, false, cond, eqb, List, [], ◌∷◌, length, get_or, Option, Some, None, refl, sym, ap, subst, ◌∙◌, arith, inl, inr, ℤ, pos, negsuc, ◌≤ℤ◌}
+use Rattle.std.proofs.Common.{◌≡◌, ◌⊎◌, ℕ, zero, suc, ◌+◌, Bool, true, false, eqb, List, [], ◌∷◌, get_or, Option, Some, None, refl, sym, ap, subst, ◌∙◌, arith, inl, inr, ℤ, pos, negsuc, ◌≤ℤ◌}
 use Rattle.std.proofs.lemmas.Int.{ints}
 use Rattle.std.proofs.lemmas.Bool.{cases_lt, cases_Bool, eqb-true, eq-eqb, true≢false}
-use Rattle.flk_text.specs.Numeral.{number_from}
-use Rattle.flk_text.specs.Decimal.{signed}
-use Rattle.flk_text.specs.NumeralParts.{whole_of}
-use Rattle.flk_text.specs.WholeNumber.{IsWholeValue, IsWholeForm}
-use Rattle.flk_text.proofs.NumeralLemmas.{whole_found, whole_syntax, whole_range}
+use Rattle.flk_text.specs.WholeNumber.{IsWholeValue}
+use Rattle.flk_text.proofs.TextCases.{whole_cases}
 use Rattle.flk_cfg.specs.Values.{IsWholeFrom}
-use Rattle.flk_cfg.proofs.FieldJudges.{whole_once, whole_form, whole_outside, whole_far}
-use Rattle.flk_dat.specs.Records.{Follows}
-use Rattle.flk_dat.specs.SampleFields.{most_number, most_stamp, IsSample, IsThere, Set, Number, Stamp, Analog, Digital, IsIn, Refuses, NoWhole, NoSample}
+use Rattle.flk_cfg.proofs.FieldJudges.{whole_form, whole_outside, whole_far}
+use Rattle.flk_cfg.proofs.SetCases.{bit_from}
+use Rattle.flk_text.proofs.DecimalLaws.{whole_once}
+use Rattle.flk_cfg.specs.declared.config.Form.TheVariants.{Ascii}
+use Rattle.flk_dat.specs.Records.{Follows, missing_value}
+use Rattle.flk_dat.specs.SampleFields.{most_number, most_stamp, least_sample, most_sample, IsSample, IsThere, Set, Number, Stamp, Analog, Digital, IsIn, Refuses, NoWhole, NoSample}
 use Rattle.flk_dat.specs.AsciiRecords.{IsFirstOut}
 use Rattle.flk_dat.specs.declared.kind.Kind.{Kind}
 use Rattle.flk_dat.specs.declared.kind.Kind.TheVariants as kinds
 use Rattle.flk_dat.proofs.RowLemmas.{AreIn}
 
 -- ---- whole numbers
-
--- a text has a value, or is of the form and has none, or isn't of the form
-abbrev WholeCases : List ℕ → Type 0
-WholeCases text = ((z : ℤ) × IsWholeValue text z) ⊎ ((IsWholeForm text × ((z : ℤ) → IsWholeValue text z → ⊥)) ⊎ (IsWholeForm text → ⊥))
-
-whole_by : (text : List ℕ) (o : Option (Bool × List ℕ)) → whole_of text ≡ o → WholeCases text
-whole_by text None e = inr (inr (whole_syntax text e))
-whole_by text (Some w) e =
-    elim (cases_lt (10 ^ 12) (number_from 0 w.1)) [
-      | inl big ↦ inr (inl (whole_range text w e big))
-      | inr few ↦ inl (signed w.0 (number_from 0 w.1), record { minus = w.0; size = number_from 0 w.1; spelled = whole_found text w e; most = few; is = refl })
-    ]
-
-whole_cases : (text : List ℕ) → WholeCases text
-whole_cases text = whole_by text (whole_of text) refl
 
 abbrev UpTo : (most : ℕ) → List ℕ → Type 0
 UpTo most f = ((n : ℕ) × IsWholeFrom 0 most f n) ⊎ ((kind : Kind) × NoWhole most f kind)
@@ -57,10 +42,10 @@ up_to most f =
 abbrev SampleCases : List ℕ → Type 0
 SampleCases f = ((z : ℤ) × IsSample f z) ⊎ ((kind : Kind) × NoSample f kind)
 
-outside : (f : List ℕ) (z : ℤ) → IsWholeValue f z → ((negsuc 99998 ≤ℤ z) → (z ≤ℤ pos 99999) → ⊥) → (y : ℤ) → IsSample f y → ⊥
+outside : (f : List ℕ) (z : ℤ) → IsWholeValue f z → ((least_sample ≤ℤ z) → (z ≤ℤ most_sample) → ⊥) → (y : ℤ) → IsSample f y → ⊥
 outside f z v out y is =
     let same : y ≡ z = whole_once f y z is.value v in
-    out (subst (λ (x : ℤ). negsuc 99998 ≤ℤ x) same is.at_least) (subst (λ (x : ℤ). x ≤ℤ pos 99999) same is.at_most)
+    out (subst (λ (x : ℤ). least_sample ≤ℤ x) same is.at_least) (subst (λ (x : ℤ). x ≤ℤ most_sample) same is.at_most)
 
 sample_of : (f : List ℕ) (z : ℤ) → IsWholeValue f z → SampleCases f
 sample_of f (pos n) v =
@@ -117,16 +102,13 @@ stamp_cases (b ∷ bs) =
       | inr out ↦ inr (out.0, ((λ e. cc), out.1))
     ]
 
-same_pos : (n m : ℕ) → pos n ≡ pos m → n ≡ m
-same_pos n m e = cc
-
-there_cases : (selected : Bool) (z : ℤ) → IsThere selected z ⊎ ((selected ≡ true) × (z ≡ pos 99999))
+there_cases : (selected : Bool) (z : ℤ) → IsThere selected z ⊎ ((selected ≡ true) × (z ≡ missing_value Ascii))
 there_cases false z = inl (λ e. absurd (true≢false (sym e)))
 there_cases true (negsuc n) = inl (λ e same. cc)
 there_cases true (pos n) =
     elim (cases_Bool (eqb n 99999)) [
       | inl same ↦ inr (refl, ap (λ (m : ℕ). pos m) (eqb-true n 99999 same))
-      | inr other ↦ inl (λ e same. true≢false (sym (eq-eqb n 99999 (same_pos n 99999 same)) ∙ other))
+      | inr other ↦ inl (λ e same. let number : n ≡ 99999 = cc same in true≢false (sym (eq-eqb n 99999 number) ∙ other))
     ]
 
 analog_cases : (selected : Bool) (f : List ℕ) → SetCases (Analog selected) f
@@ -139,11 +121,6 @@ analog_cases selected f =
         | inr missing ↦ inr (kinds.Missing, inr (refl, missing.0, subst (IsSample f) missing.1 is.1))
       ]
     ]
-
-bit_from : (f : List ℕ) (n : ℕ) → IsWholeFrom 0 1 f n → (b : Bool) × IsWholeFrom 0 1 f (cond b 1 0)
-bit_from f zero is = (false, is)
-bit_from f (suc zero) is = (true, is)
-bit_from f (suc (suc n)) is = absurd (omega (arith, is.at_most))
 
 digital_cases : (f : List ℕ) → SetCases Digital f
 unfolding IsIn Refuses

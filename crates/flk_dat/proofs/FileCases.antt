@@ -1,11 +1,11 @@
 -- Bytes have records, or a first fault.
-use Rattle.std.proofs.Common.{◌≡◌, ◌≢◌, ◌⊎◌, ℕ, zero, suc, ◌+◌, ◌-◌, ◌*◌, ◌/◌, ◌%◌, ◌^◌, ◌<◌, ◌≤◌, Bool, true, false, cond, eqb, List, [], ◌∷◌, ◌++◌, length, get_or, Option, Some, None, refl, sym, ap, subst, ◌∙◌, arith, inl, inr, ℤ, pos, negsuc, length-append}
-use Rattle.std.specs.List.{list_all, count_by}
+use Rattle.std.proofs.Common.{◌≡◌, ◌≢◌, ◌⊎◌, ℕ, zero, suc, ◌+◌, ◌<◌, ◌≤◌, Bool, true, false, eqb, List, [], ◌∷◌, ◌++◌, length, get_or, Option, Some, refl, sym, ap, subst, ◌∙◌, arith, inl, inr, ℤ, pos, negsuc, length-append}
+use Rattle.std.specs.List.{list_all}
 use Rattle.std.proofs.lemmas.Bool.{cases_lt, cases_Bool, eqb-true, eq-eqb, true≢false}
 use Rattle.std.proofs.lemmas.List.{get_or_append_left, get_or_past}
 use Rattle.std.proofs.Math.Seq.{get_or-append_seam}
 use Rattle.flk_text.specs.Lines.{is_byte}
-use Rattle.flk_text.specs.Tail.{is_tail_byte, IsTail}
+use Rattle.flk_text.proofs.TextCases.{tail_cases}
 use Rattle.flk_text.specs.Fields.{fields}
 use Rattle.flk_cfg.specs.Values.{IsBit}
 use Rattle.flk_cfg.specs.declared.config.Form.{Form}
@@ -241,12 +241,9 @@ follow_cases : (form : Form) (rest : List ℕ) → MayFollow form rest ⊎ (MayF
 follow_cases Ascii rest =
     elim (cases_lt longest_tail (length rest)) [
       | inl long ↦ inr (λ f. omega (arith, long, f.1))
-      | inr short ↦ elim (cases_lt 1 (count_by (is_byte 26) rest)) [
-        | inl many ↦ inr (λ f. omega (arith, many, f.0.one))
-        | inr one ↦ elim (cases_Bool (list_all is_tail_byte rest)) [
-          | inl bytes ↦ inl (record { bytes = bytes; one = one }, short)
-          | inr other ↦ inr (λ f. true≢false (sym f.0.bytes ∙ other))
-        ]
+      | inr short ↦ elim (tail_cases rest) [
+        | inl tail ↦ inl (tail, short)
+        | inr other ↦ inr (λ f. other f.0)
       ]
     ]
 follow_cases Binary [] = inl refl

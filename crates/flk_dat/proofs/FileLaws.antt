@@ -1,9 +1,9 @@
 -- Bytes have one list of records, or one first fault.
-use Rattle.std.proofs.Common.{◌≡◌, ◌≢◌, ◌⊎◌, ℕ, ◌+◌, ◌-◌, ◌<◌, ◌≤◌, List, [], ◌∷◌, length, Option, refl, sym, ap, subst, ◌∙◌, arith, inl, inr}
+use Rattle.std.proofs.Common.{◌≡◌, ℕ, ◌+◌, ◌<◌, List, length, refl, sym, ap, subst, ◌∙◌, arith, inl, inr}
 use Rattle.std.proofs.lemmas.Bool.{cases_lt}
 use Rattle.std.proofs.lemmas.List.{ext_get_or}
 use Rattle.flk_dat.specs.Records.{DataRecord, Layout, no_record, record_at, Follows, last_number, ArePresent}
-use Rattle.flk_dat.specs.DataFile.{after_records, IsRecord, RecordFault, MayFollow, AreFirst, IsFile, IsAccepted, IsFaultAfter, IsFirstFault}
+use Rattle.flk_dat.specs.DataFile.{after_records, RecordFault, AreFirst, IsFile, IsAccepted, IsFaultAfter, IsFirstFault}
 use Rattle.flk_dat.specs.declared.kind.Kind.{Kind}
 use Rattle.flk_dat.proofs.Sequences.{follows_at}
 use Rattle.flk_dat.proofs.RecordLaws.{record_once, record_or_fault, one_record_fault}

@@ -15,6 +15,7 @@ pub mod LoopLemmas
 pub mod RecordLaws
 pub mod FileLaws
 pub mod StandingLaws
+pub mod TakenBytes
 pub mod FieldCases
 pub mod FileCases
 pub mod WrittenBits

@@ -1,11 +1,11 @@
 -- The line at the front of bytes, whatever follows its end.
-use Rattle.std.proofs.Common.{◌≡◌, ◌≢◌, ◌⊎◌, ℕ, zero, suc, ◌+◌, ◌-◌, ◌<◌, ◌≤◌, Bool, true, false, cond, eqb, List, [], ◌∷◌, ◌++◌, length, get_or, take, drop, refl, sym, ap, subst, ◌∙◌, arith, inl, inr, length-append, append_assoc, append-nil, length-take}
-use Rattle.std.specs.Prelude.{not, ◌||◌, ◌&&◌}
-use Rattle.std.specs.List.{list_all, position_or_len, before_first, after_first}
-use Rattle.std.proofs.lemmas.Bool.{cases_Bool, cases_lt, eqb-true, eq-eqb, ne_eqb, true≢false, and_parts, and_from, not-true}
+use Rattle.std.proofs.Common.{◌≡◌, ◌⊎◌, ℕ, zero, suc, ◌+◌, ◌-◌, ◌<◌, ◌≤◌, Bool, true, false, cond, eqb, List, [], ◌∷◌, ◌++◌, length, get_or, take, drop, refl, sym, ap, subst, ◌∙◌, arith, inl, inr, length-append, append-nil, length-take}
+use Rattle.std.specs.Prelude.{not}
+use Rattle.std.specs.List.{list_all, position_or_len, before_first}
+use Rattle.std.proofs.lemmas.Bool.{cases_Bool, cases_lt, eqb-true, eq-eqb, ne_eqb, and_parts, not-true}
 use Rattle.std.proofs.lemmas.List.{take_all, drop_all, get_or_append_left}
 use Rattle.std.proofs.lemmas.List.Folds.{list_all-append}
-use Rattle.std.proofs.Math.Seq.{take-append_seam, take-append-add, drop-append_seam, drop-append-add, get_or-append_seam}
+use Rattle.std.proofs.Math.Seq.{take-append_seam, take-append-add, drop-append_seam, drop-append-add}
 use Rattle.flk_text.specs.Lines.{is_byte, ends_last_line, without_cr, without_lf, line_of, after_line, last_line_of, tail_of}
 use Rattle.flk_dat.specs.AsciiRecords.{longest_line, IsBlank}
 use Rattle.flk_dat.specs.DataFile.{line_at}
@@ -134,7 +134,7 @@ too_long bytes none =
       | inr few ↦ absurd (none (inl few))
     ]
 
-without_cr_length : (bytes : List ℕ) → length bytes ≤ length (without_cr bytes) + 1
+pub without_cr_length : (bytes : List ℕ) → length bytes ≤ length (without_cr bytes) + 1
 without_cr_length bytes =
     elim (cases_Bool (eqb (get_or bytes (length bytes - 1) 0) 13)) [
       | inl cr ↦ rw cr (omega (arith, length-take (length bytes - 1) bytes))

@@ -1,5 +1,5 @@
 -- Steps one after another over a piece.
-use Rattle.std.proofs.Common.{◌≡◌, ◌≢◌, ◌⊎◌, ℕ, ◌+◌, ◌-◌, ◌<◌, ◌≤◌, List, [], ◌∷◌, ◌++◌, length, take, drop, refl, sym, ap, subst, ◌∙◌, arith, inl, inr, length-append, length-drop, append_assoc, append-nil}
+use Rattle.std.proofs.Common.{◌≡◌, ℕ, ◌+◌, ◌-◌, ◌<◌, ◌≤◌, List, ◌++◌, length, take, drop, sym, ap, subst, ◌∙◌, arith, inl, inr, length-append, length-drop, append_assoc}
 use Rattle.std.proofs.lemmas.Bool.{cases_lt}
 use Rattle.std.proofs.Math.Seq.{take-add}
 use Rattle.std.proofs.lemmas.List.{take_all, take-append-drop}
@@ -10,7 +10,7 @@ use Rattle.flk_dat.specs.States.{layout, Stands, Fits}
 use Rattle.flk_dat.specs.Takings.{Keeps, Takes, Taking, TakesAll, Stops}
 use Rattle.flk_dat.specs.declared.reader.Reader.{Reader}
 use Rattle.flk_dat.specs.declared.kind.Fault.{Fault}
-use Rattle.flk_dat.proofs.Sequences.{added_none, added_then, added_length, grows_same, grows_then}
+use Rattle.flk_dat.proofs.Sequences.{added_then, added_length, grows_then}
 
 pub keeps_then : (r s t : Reader) (a b c : Rows) → Keeps r s a b → Keeps s t b c → Keeps r t a c
 keeps_then r s t a b c p q = record { layout_same = q.layout_same ∙ p.layout_same; grows = grows_then a b c p.grows q.grows }
@@ -19,21 +19,6 @@ pub fits_same : (r s : Reader) (a b : Rows) → layout s ≡ layout r → Grows 
 fits_same r s a b same g f = record {
   analog = g.analog ∙ f.analog ∙ ap (λ (l : Layout). length l.selected) (sym same);
   digital = g.digital ∙ f.digital ∙ ap (λ (l : Layout). l.digital) (sym same);
-}
-
-pub fits_then : (r s : Reader) (a b : Rows) → Keeps r s a b → Fits r a → Fits s b
-fits_then r s a b k f = fits_same r s a b k.layout_same k.grows f
-
-pub taking_none : (r : Reader) (b : Rows) (piece : List ℕ) → Taking r r b b piece 0
-taking_none r b piece = record {
-  keeps = record { layout_same = refl; grows = grows_same b };
-  within = omega arith;
-  stands = λ taken given s.
-      subst (λ (x : List ℕ). Stands r x (given ++ added b b)) (sym (append-nil taken))
-      (subst (λ (x : List DataRecord). Stands r taken x) (sym (ap (λ (y : List DataRecord). given ++ y) (added_none b b refl) ∙ append-nil given)) s);
-  nothing = λ room. (refl, refl);
-  idle = λ e. refl;
-  full = λ taken given s less more. absurd (omega (arith, less, more));
 }
 
 -- the piece that is left

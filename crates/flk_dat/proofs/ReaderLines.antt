@@ -1,16 +1,16 @@
 -- What the reader does with the bytes of an ASCII line.
-use Rattle.std.proofs.Common.{◌≡◌, ◌≢◌, ◌⊎◌, ℕ, suc, ◌+◌, ◌-◌, ◌<◌, ◌≤◌, Bool, true, false, eqb, List, [], ◌∷◌, ◌++◌, length, get_or, take, drop, Option, Some, None, refl, sym, ap, subst, ◌∙◌, arith, inl, inr, length-append, append_assoc, append-nil}
-use Rattle.std.specs.List.{list_all, count_by, position_or_len}
+use Rattle.std.proofs.Common.{◌≡◌, ℕ, suc, ◌+◌, ◌<◌, Bool, true, eqb, List, [], ◌∷◌, ◌++◌, length, get_or, take, drop, sym, ap, subst, ◌∙◌, arith, append_assoc}
+use Rattle.std.specs.List.{position_or_len}
 use Rattle.std.proofs.lemmas.List.{take_more}
 use Rattle.std.proofs.lemmas.List.Sums.{passes_at_first}
 use Rattle.std.proofs.Math.Seq.{split_at}
-use Rattle.flk_text.specs.Lines.{is_byte, without_cr}
+use Rattle.flk_text.specs.Lines.{without_cr}
 use Rattle.flk_cfg.specs.declared.config.Form.{Form}
 use Rattle.flk_cfg.specs.declared.config.Form.TheVariants.{Ascii}
-use Rattle.flk_dat.specs.Records.{DataRecord, Rows, Layout, Follows, IsPresent}
+use Rattle.flk_dat.specs.Records.{DataRecord, Follows, IsPresent}
 use Rattle.flk_dat.specs.AsciiRecords.{IsLine, LineFault}
 use Rattle.flk_dat.specs.DataFile.{IsRecord, RecordFault, MayFollow}
-use Rattle.flk_dat.specs.Streams.{ends_line, IsUnended, MayBegin, IsPartOf}
+use Rattle.flk_dat.specs.Streams.{ends_line, IsUnended, MayBegin}
 use Rattle.flk_dat.specs.Tails.{tail_after}
 use Rattle.flk_dat.specs.States.{layout}
 use Rattle.flk_dat.specs.Takings.{Gives}
@@ -22,10 +22,7 @@ use Rattle.flk_dat.proofs.LineEnds.{mark_of}
 use Rattle.flk_dat.proofs.StreamLemmas.{after_front}
 use Rattle.flk_dat.proofs.StateLemmas.{Given}
 use Rattle.flk_dat.proofs.TakingLemmas.{IsHeld, Whole}
-use Rattle.flk_dat.proofs.AsciiSteps.{ascii_part, ascii_part_is, unended_more, piece_before, piece_unended, good_may_begin, line_here, line_after, line_fault_here, long_here, mark_none, mark_follows, mark_tail, regroup}
-
-pub same_layout : (l : Layout) (selected : List Bool) (digital : ℕ) → selected ≡ l.selected → digital ≡ l.digital → (let x : Layout = record { form = l.form; records = l.records; selected = selected; digital = digital } in x) ≡ l
-same_layout l selected digital s d = rw (s, d) refl
+use Rattle.flk_dat.proofs.AsciiSteps.{ascii_part, ascii_part_is, unended_more, piece_before, piece_unended, good_may_begin, line_here, line_after, line_fault_here, long_here, mark_none, mark_follows, mark_tail}
 
 -- whether the line that is due is the last record's
 abbrev pub is_last : Reader → Bool
@@ -44,7 +41,7 @@ held_before old piece n form e held = unended_more (is_last old) old.rest (take 
 
 -- the line that the piece ends
 pub line_whole : (old : Reader) (piece : List ℕ) (n : ℕ) (r : DataRecord) → old.form ≡ Ascii → n ≡ end_of old piece → n < length piece
-    → IsLine (length old.row.selected.items) (length old.row.digital.items) (without_cr (old.rest ++ take n piece)) r → Follows old.before r.number → IsPresent Ascii old.row.selected.items r
+    → IsLine (length old.channels.selected.items) old.channels.digital (without_cr (old.rest ++ take n piece)) r → Follows old.before r.number → IsPresent Ascii old.channels.selected.items r
     → Whole old piece (n + 1) (mark_of (get_or piece n 0)) r
 line_whole old piece n r form e lt line follows present =
     let c = get_or piece n 0 in
@@ -57,7 +54,7 @@ line_whole old piece n r form e lt line follows present =
       after = λ held rest. subst (λ (x : List ℕ). after_front old.form (layout old) old.given (old.rest ++ (x ++ rest)) ≡ mark_of c ++ rest) (sym more)
           (line_after (layout old) old.given old.rest (take n piece) rest c old.form form (held_before old piece n form e held) end);
       follows = follows;
-      present = subst (λ (f : Form). IsPresent f old.row.selected.items r) (sym form) present;
+      present = subst (λ (f : Form). IsPresent f old.channels.selected.items r) (sym form) present;
       front = take n piece;
       byte = c;
       last = more;
@@ -66,7 +63,7 @@ line_whole old piece n r form e lt line follows present =
 
 -- the fault of the line that the piece ends
 pub line_stops : (old : Reader) (piece : List ℕ) (n field : ℕ) (kind : Kind) → old.form ≡ Ascii → n ≡ end_of old piece → n < length piece
-    → LineFault old.row.selected.items (length old.row.digital.items) old.before (without_cr (old.rest ++ take n piece)) field kind
+    → LineFault old.channels.selected.items old.channels.digital old.before (without_cr (old.rest ++ take n piece)) field kind
     → IsHeld old old.rest → (more : List ℕ) → RecordFault (layout old) old.given old.before (old.rest ++ (piece ++ more)) field kind
 line_stops old piece n field kind form e lt fault held more =
     let c = get_or piece n 0 in

@@ -1,24 +1,24 @@
 -- A record at the front of bytes is one, or has one fault.
-use Rattle.std.proofs.Common.{◌≡◌, ◌≢◌, ◌⊎◌, ℕ, zero, suc, ◌+◌, ◌-◌, ◌*◌, ◌<◌, ◌≤◌, Bool, true, false, cond, eqb, List, [], ◌∷◌, ◌++◌, length, get_or, take, Option, Some, None, refl, sym, ap, subst, ◌∙◌, arith, inl, inr, ℤ, pos, negsuc, length-append}
+use Rattle.std.proofs.Common.{◌≡◌, ◌≢◌, ℕ, zero, suc, ◌+◌, ◌-◌, ◌<◌, ◌≤◌, Bool, true, false, cond, eqb, List, [], ◌∷◌, length, get_or, take, Option, Some, None, refl, sym, ap, subst, ◌∙◌, arith, inl, inr, ℤ, pos, length-append}
 use Rattle.std.specs.List.{list_all, count_by, before_first, position_or_len}
-use Rattle.std.proofs.lemmas.Bool.{cases_lt, cases_Bool, true≢false, and_parts, and_from, eqb-true, ne_eqb}
-use Rattle.std.proofs.lemmas.List.{ext_get_or, get_or_past}
+use Rattle.std.proofs.lemmas.Bool.{cases_lt, cases_Bool, and_parts, and_from, eqb-true, ne_eqb}
+use Rattle.std.proofs.lemmas.List.{ext_get_or}
 use Rattle.flk_text.specs.WholeNumber.{IsWholeForm}
 use Rattle.flk_text.specs.Fields.{fields}
 use Rattle.flk_text.specs.Lines.{is_byte, without_cr}
 use Rattle.flk_text.proofs.FieldLemmas.{fields_count}
+use Rattle.flk_text.proofs.DecimalLaws.{whole_once}
 use Rattle.flk_cfg.specs.Values.{IsWholeFrom, IsBit}
 use Rattle.flk_cfg.specs.declared.config.Form.{Form}
 use Rattle.flk_cfg.specs.declared.config.Form.TheVariants.{Ascii, Binary}
-use Rattle.flk_cfg.proofs.FieldJudges.{whole_once, whole_form}
+use Rattle.flk_cfg.proofs.FieldJudges.{whole_form}
 use Rattle.flk_cfg.proofs.FieldLaws.{whole_from_once, bit_once}
-use Rattle.flk_dat.specs.Records.{DataRecord, Layout, Follows, IsPresent, missing_value}
-use Rattle.flk_dat.specs.SampleFields.{most_number, most_stamp, IsNumber, IsStamp, IsSample, IsThere, Set, Number, Stamp, Analog, Digital, IsIn, Refuses, NoWhole, NoSample}
-use Rattle.flk_dat.specs.AsciiRecords.{longest_line, field_total, IsRow, IsLine, column, IsFirstOut, RowFault, LineFault, IsBlank}
-use Rattle.flk_dat.specs.BinaryRecords.{record_size, number_of, value_of, IsBinary, IsFirstMissing, WholeFault, BinaryFault}
+use Rattle.flk_dat.specs.Records.{DataRecord, Layout, Follows, IsPresent}
+use Rattle.flk_dat.specs.SampleFields.{most_number, most_stamp, IsStamp, IsSample, Set, Number, Stamp, Analog, Digital, IsIn, Refuses, NoWhole, NoSample}
+use Rattle.flk_dat.specs.AsciiRecords.{field_total, IsRow, IsLine, column, IsFirstOut, RowFault, LineFault, IsBlank}
+use Rattle.flk_dat.specs.BinaryRecords.{IsBinary, IsFirstMissing, WholeFault, BinaryFault}
 use Rattle.flk_dat.specs.DataFile.{line_at, StandsInFront, IsRecord, FaultInFront, RecordFault}
 use Rattle.flk_dat.specs.declared.kind.Kind.{Kind}
-use Rattle.flk_dat.specs.declared.kind.Kind.TheVariants as kinds
 use Rattle.flk_dat.specs.Streams.{ends_line}
 use Rattle.flk_dat.proofs.LineEnds.{line_is}
 use Rattle.flk_dat.proofs.RowLemmas.{AreIn, number_in, stamp_in, analog_in, digital_in, head_are_in, analog_are_in, digital_are_in}

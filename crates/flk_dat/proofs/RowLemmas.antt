@@ -1,7 +1,5 @@
 -- The fields of a line by their place, and the first of them that isn't in its set.
-use Rattle.std.proofs.Common.{◌≡◌, ◌≢◌, ℕ, zero, suc, ◌+◌, ◌-◌, ◌<◌, ◌≤◌, List, [], ◌∷◌, length, get_or, drop, true, false, Bool, Option, ltb, eqb, refl, sym, ap, subst, ◌∙◌, arith, inl, inr, Result, ℤ, pos}
-use Rattle.std.specs.Result.{MatchResult, IsErrAnd, IfErr}
-use Rattle.std.proofs.lemmas.Result.{err_from_is_err_and}
+use Rattle.std.proofs.Common.{◌≡◌, ℕ, zero, suc, ◌+◌, ◌-◌, ◌<◌, ◌≤◌, List, [], ◌∷◌, length, get_or, drop, true, false, Bool, Option, ltb, eqb, refl, sym, ap, subst, ◌∙◌, arith, inl, inr, ℤ}
 use Rattle.std.proofs.lemmas.Bool.{lt-ltb, le-ltb, cases_lt}
 use Rattle.std.proofs.lemmas.List.{get_or-drop, drop-drop}
 use Rattle.flk_cfg.specs.Values.{IsBit}
@@ -10,13 +8,6 @@ use Rattle.flk_dat.specs.SampleFields.{Set, Number, Stamp, Analog, Digital, IsIn
 use Rattle.flk_dat.specs.AsciiRecords.{column, IsFirstOut, field_total}
 use Rattle.flk_dat.specs.Heads.{head_column}
 use Rattle.flk_dat.specs.declared.kind.Kind.{Kind}
-use Rattle.flk_dat.specs.declared.kind.Fault.{Fault}
-
--- the exit of a `?` whose fault is passed on
-pub fault_exit : {T : Type 0} (r : Result T Fault) (P : T → Type 0) (Q : Fault → Type 0) (f : Fault) → IsErrAnd r (λ y. y ≡ f) → Q f → MatchResult r P Q
-fault_exit {T} r P Q f e q =
-    let p = err_from_is_err_and r e in
-    subst (λ (x : Result T Fault). MatchResult x P Q) (sym p.1) (subst Q (sym p.2) q)
 
 -- ---- what is left of the fields
 

@@ -1,8 +1,6 @@
 -- What the judges of single fields answer.
-use Rattle.std.proofs.Common.{◌≡◌, ◌≢◌, ℕ, List, sym, subst, arith, ℤ, pos, negsuc, ◌≤ℤ◌}
-use Rattle.std.proofs.lemmas.Int.{ints}
+use Rattle.std.proofs.Common.{ℕ, List, ℤ}
 use Rattle.flk_text.specs.WholeNumber.{IsWholeValue}
-use Rattle.flk_cfg.proofs.FieldJudges.{whole_once}
 use Rattle.flk_dat.specs.SampleFields.{IsSample}
 
 -- a whole number that is too long is no analog value

@@ -1,17 +1,16 @@
 -- Bytes that a reader has taken without a fault have none that is sure.
-use Rattle.std.proofs.Common.{◌≡◌, ◌≢◌, ◌⊎◌, ℕ, zero, suc, ◌+◌, ◌-◌, ◌*◌, ◌/◌, ◌<◌, ◌≤◌, Bool, true, false, eqb, List, [], ◌∷◌, ◌++◌, length, replicate, Option, refl, sym, ap, subst, ◌∙◌, arith, inl, inr, length-append, append-nil}
+use Rattle.std.proofs.Common.{◌≡◌, ℕ, zero, suc, ◌+◌, ◌<◌, ◌≤◌, Bool, true, false, eqb, List, [], ◌++◌, length, replicate, Option, refl, sym, ap, subst, ◌∙◌, arith, inl, inr, length-append, append-nil}
 use Rattle.std.specs.List.{list_all}
 use Rattle.std.specs.Prelude.{not}
-use Rattle.std.proofs.lemmas.Bool.{cases_lt, and_from, ne_eqb}
+use Rattle.std.proofs.lemmas.Bool.{cases_lt, and_from}
 use Rattle.std.proofs.lemmas.List.{length-replicate}
-use Rattle.flk_text.specs.Lines.{without_cr}
 use Rattle.flk_text.specs.Fields.{fields}
 use Rattle.flk_cfg.specs.declared.config.Form.{Form}
 use Rattle.flk_cfg.specs.declared.config.Form.TheVariants.{Ascii, Binary}
 use Rattle.flk_dat.specs.Records.{DataRecord, Layout, last_number}
 use Rattle.flk_dat.specs.SampleFields.{Set, Number, Stamp, Analog, Digital, Refuses, NoWhole, NoSample}
-use Rattle.flk_dat.specs.AsciiRecords.{longest_line, LineFault, RowFault, IsBlank}
-use Rattle.flk_dat.specs.BinaryRecords.{record_size, WholeFault, BinaryFault}
+use Rattle.flk_dat.specs.AsciiRecords.{longest_line, LineFault, RowFault}
+use Rattle.flk_dat.specs.BinaryRecords.{record_size, WholeFault}
 use Rattle.flk_dat.specs.DataFile.{line_at, after_records, FaultInFront, RecordFault, AreFirst, IsFaultAfter, IsFirstFault}
 use Rattle.flk_dat.specs.Streams.{ends_line, IsUnended, MayBegin, IsPartOf, HasGiven}
 use Rattle.flk_dat.specs.States.{layout, Stands}

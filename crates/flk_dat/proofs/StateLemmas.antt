@@ -1,5 +1,5 @@
 -- What a reader stands for after a call.
-use Rattle.std.proofs.Common.{◌≡◌, ◌≢◌, ◌⊎◌, ℕ, ◌+◌, ◌-◌, ◌*◌, ◌/◌, ◌<◌, ◌≤◌, Bool, true, false, eqb, List, [], ◌∷◌, ◌++◌, length, Option, Some, None, refl, sym, ap, subst, ◌∙◌, arith, inl, inr, length-append}
+use Rattle.std.proofs.Common.{◌≡◌, ℕ, ◌+◌, ◌<◌, List, [], ◌∷◌, ◌++◌, length, Option, Some, None, refl, sym, ap, subst, ◌∙◌, arith, inl}
 use Rattle.std.specs.List.{count_by}
 use Rattle.flk_text.specs.Lines.{is_byte}
 use Rattle.flk_cfg.specs.declared.config.Form.{Form}
@@ -7,7 +7,7 @@ use Rattle.flk_cfg.specs.declared.config.Form.TheVariants.{Ascii, Binary}
 use Rattle.flk_dat.specs.Records.{DataRecord, Layout, Follows, last_number, IsPresent}
 use Rattle.flk_dat.specs.DataFile.{IsRecord, MayFollow}
 use Rattle.flk_dat.specs.Streams.{IsPartOf, HasGiven}
-use Rattle.flk_dat.specs.States.{layout, Holds, Stands}
+use Rattle.flk_dat.specs.States.{layout, Stands}
 use Rattle.flk_dat.specs.declared.reader.Reader.{Reader}
 use Rattle.flk_dat.proofs.Sequences.{length_more, last_number_more}
 use Rattle.flk_dat.proofs.StreamLemmas.{after_front, given_none, given_held, given_more}

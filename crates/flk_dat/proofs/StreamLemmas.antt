@@ -1,14 +1,14 @@
 -- What the bytes taken give, step by step.
-use Rattle.std.proofs.Common.{◌≡◌, ◌≢◌, ◌⊎◌, ℕ, zero, suc, ◌+◌, ◌-◌, ◌*◌, ◌<◌, ◌≤◌, Bool, true, false, cond, eqb, List, [], ◌∷◌, ◌++◌, length, drop, Option, refl, sym, ap, subst, ◌∙◌, arith, inl, inr, length-append, append_assoc, append-nil, add-one}
-use Rattle.std.proofs.lemmas.Bool.{cases_Bool, cases_lt, ne_eqb, eq-eqb}
+use Rattle.std.proofs.Common.{◌≡◌, ℕ, ◌+◌, ◌-◌, ◌*◌, ◌<◌, false, eqb, List, [], ◌∷◌, ◌++◌, length, drop, refl, sym, ap, subst, ◌∙◌, arith, inl, inr, append_assoc, append-nil, add-one}
+use Rattle.std.proofs.lemmas.Bool.{cases_Bool, ne_eqb}
 use Rattle.std.proofs.lemmas.List.{drop-drop}
 use Rattle.flk_text.specs.Lines.{after_line, tail_of}
 use Rattle.flk_cfg.specs.Places.{after_lines}
 use Rattle.flk_cfg.specs.declared.config.Form.{Form}
 use Rattle.flk_cfg.specs.declared.config.Form.TheVariants.{Ascii, Binary}
-use Rattle.flk_dat.specs.Records.{DataRecord, Layout, record_at, Follows, AreConsecutive, last_number, IsPresent, ArePresent}
+use Rattle.flk_dat.specs.Records.{DataRecord, Layout, Follows, last_number, IsPresent}
 use Rattle.flk_dat.specs.BinaryRecords.{record_size}
-use Rattle.flk_dat.specs.DataFile.{after_rows, after_of, after_records, IsRecord, RecordFault, EndFault, MayFollow, AreFirst, IsFile, IsAccepted, IsFaultAfter}
+use Rattle.flk_dat.specs.DataFile.{after_rows, after_of, after_records, IsRecord, RecordFault, EndFault, MayFollow, AreFirst, IsAccepted, IsFaultAfter}
 use Rattle.flk_dat.specs.Streams.{IsPartOf, HasGiven, EndsRecord}
 use Rattle.flk_dat.specs.declared.kind.Kind.{Kind}
 use Rattle.flk_dat.proofs.Sequences.{length_more, each_more, consecutive_more, present_more}

@@ -1,16 +1,15 @@
 -- What one call of the reader does, from what it did to the reader's parts.
-use Rattle.std.proofs.Common.{◌≡◌, ◌≢◌, ◌⊎◌, ℕ, ◌+◌, ◌-◌, ◌*◌, ◌/◌, ◌<◌, ◌≤◌, Bool, true, false, eqb, List, [], ◌∷◌, ◌++◌, length, take, drop, Option, Some, None, refl, sym, ap, subst, ◌∙◌, arith, inl, inr, length-append, append_assoc, append-nil}
+use Rattle.std.proofs.Common.{◌≡◌, ℕ, ◌<◌, ◌≤◌, List, [], ◌∷◌, ◌++◌, length, take, Option, refl, sym, ap, subst, ◌∙◌, arith, inl, inr, append_assoc, append-nil}
 use Rattle.std.proofs.lemmas.List.{take_all}
 use Rattle.std.specs.List.{count_by}
 use Rattle.flk_text.specs.Lines.{is_byte}
 use Rattle.flk_cfg.specs.declared.config.Form.{Form}
-use Rattle.flk_dat.specs.Records.{DataRecord, Rows, Layout, Follows, last_number, IsPresent}
+use Rattle.flk_dat.specs.Records.{DataRecord, Rows, Layout, Follows, IsPresent}
 use Rattle.flk_dat.specs.DataFile.{IsRecord, RecordFault, EndFault, MayFollow, IsAccepted, IsFaultAfter}
-use Rattle.flk_dat.specs.Streams.{IsPartOf, HasGiven, EndsRecord, added, Grows}
-use Rattle.flk_dat.specs.States.{layout, Holds, Stands}
-use Rattle.flk_dat.specs.Takings.{Keeps, Takes, Stops, Ends, Falls}
+use Rattle.flk_dat.specs.Streams.{IsPartOf, HasGiven, added}
+use Rattle.flk_dat.specs.States.{layout, Stands}
+use Rattle.flk_dat.specs.Takings.{Takes, Stops, Ends, Falls}
 use Rattle.flk_dat.specs.declared.reader.Reader.{Reader}
-use Rattle.flk_dat.specs.declared.kind.Kind.{Kind}
 use Rattle.flk_dat.specs.declared.kind.Kind.TheVariants as kinds
 use Rattle.flk_dat.specs.declared.kind.Fault.{Fault}
 use Rattle.flk_dat.proofs.Sequences.{length_more, added_is, added_none, grows_by, grows_same}
@@ -111,6 +110,13 @@ falls_due old new b f same count due fault = record {
       subst (λ (x : List DataRecord). IsFaultAfter (layout old) taken x f.field f.kind) (sym (nothing_added given b))
       (subst (λ (x : List ℕ). IsFaultAfter (layout old) x given f.field f.kind) (append-nil taken) (fault_due (layout old) taken given old.rest [] f.field f.kind has.0 lt here));
 }
+
+-- a block that is as before
+pub stops_same : (old new : Reader) (before after : Rows) (piece : List ℕ) (f : Fault) → after ≡ before → Stops old new before before piece f → Stops old new before after piece f
+stops_same old new before after piece f same stops = subst (λ (b : Rows). Stops old new before b piece f) (sym same) stops
+
+pub falls_same : (old new : Reader) (before after : Rows) (f : Fault) → after ≡ before → Falls old new before before f → Falls old new before after f
+falls_same old new before after f same falls = subst (λ (b : Rows). Falls old new before b f) (sym same) falls
 
 -- ---- behind the last record
 

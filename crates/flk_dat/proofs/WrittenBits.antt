@@ -1,19 +1,16 @@
 -- The words of digital channels.
-use Rattle.std.proofs.Common.{◌≡◌, ℕ, zero, suc, ◌+◌, ◌-◌, ◌*◌, ◌/◌, ◌%◌, ◌^◌, ◌<◌, ◌≤◌, Bool, true, false, cond, List, [], ◌∷◌, ◌++◌, length, get_or, take, drop, min, refl, sym, ap, subst, ◌∙◌, arith, inl, inr, add-one, length-append}
-use Rattle.std.specs.List.{flat_map, range_with_len}
+use Rattle.std.proofs.Common.{◌≡◌, ℕ, zero, suc, ◌+◌, ◌*◌, ◌^◌, ◌<◌, Bool, true, false, cond, List, [], ◌∷◌, ◌++◌, length, get_or, take, drop, min, refl, sym, ap, subst, ◌∙◌, arith, inl, inr, add-one}
+use Rattle.std.specs.List.{range_with_len}
 use Rattle.std.proofs.Math.Seq.{drop-cons}
 use Rattle.std.proofs.Math.Nat.{pow-succ'}
 use Rattle.std.proofs.lemmas.Bool.{cases_lt}
 use Rattle.std.proofs.lemmas.List.{take_all}
 use mir.Val.{bool_byte}
+use Rattle.flk_cfg.proofs.WrittenFields.{bit_small}
 use Rattle.flk_dat.specs.Written.{bits_number}
 
 pub bits_step : (bs : List Bool) (j : ℕ) → j < length bs → bits_number (drop j bs) ≡ cond (get_or bs j false) 1 0 + 2 * bits_number (drop (j + 1) bs)
 bits_step bs j lt = ap bits_number (drop-cons bs j false lt ∙ ap (λ (n : ℕ). get_or bs j false ∷ drop n bs) (sym (add-one j)))
-
-pub bit_small : (b : Bool) → cond b 1 0 ≤ 1
-bit_small true = omega arith
-bit_small false = omega arith
 
 pub word_step : (w k n : ℕ) (b : Bool) → w < 2 ^ k → n ≡ k + 1 → 2 * w + cond b 1 0 < 2 ^ n
 word_step w k n b lt e =

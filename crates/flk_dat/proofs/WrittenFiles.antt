@@ -1,5 +1,5 @@
 -- Canonical records one after another are a file.
-use Rattle.std.proofs.Common.{◌≡◌, ℕ, zero, suc, ◌+◌, ◌-◌, ◌<◌, ◌≤◌, eqb, List, [], ◌∷◌, ◌++◌, length, take, refl, sym, ap, subst, ◌∙◌, arith, length-append, length-take, append_assoc, append-nil, add-one}
+use Rattle.std.proofs.Common.{◌≡◌, ℕ, zero, suc, ◌+◌, ◌<◌, ◌≤◌, List, [], ◌∷◌, ◌++◌, length, take, refl, sym, ap, subst, ◌∙◌, arith, length-take, append_assoc, append-nil, add-one}
 use Rattle.std.specs.List.{flat_map}
 use Rattle.std.proofs.lemmas.Grind.{flat_map-append}
 use Rattle.std.proofs.lemmas.List.{take_all, take_more, get_or-take}
@@ -8,7 +8,7 @@ use Rattle.flk_cfg.specs.declared.config.Form.TheVariants.{Ascii, Binary}
 use Rattle.flk_dat.specs.Records.{DataRecord, Layout, HasWidth, no_record, record_at, Follows, AreConsecutive, last_number}
 use Rattle.flk_dat.specs.BinaryRecords.{record_size}
 use Rattle.flk_dat.specs.DataFile.{after_records, IsRecord, MayFollow, AreFirst, IsFile}
-use Rattle.flk_dat.specs.Written.{IsWritable, written_line, written_binary, written_record}
+use Rattle.flk_dat.specs.Written.{IsWritable, written_binary, written_record}
 use Rattle.flk_dat.proofs.Sequences.{length_more, follows_at}
 use Rattle.flk_dat.proofs.StreamLemmas.{after_front, after_next, after_none, first_none, first_more}
 use Rattle.flk_dat.proofs.WrittenLines.{ascii_written}

@@ -1,41 +1,32 @@
 -- A canonical line is read back as its record.
-use Rattle.std.proofs.Common.{◌≡◌, ◌≢◌, ℕ, zero, suc, ◌+◌, ◌-◌, ◌*◌, ◌^◌, ◌<◌, ◌≤◌, Bool, true, false, cond, eqb, ℤ, pos, negsuc, ◌≤ℤ◌, List, [], ◌∷◌, ◌++◌, length, get_or, map, take, Option, Some, None, refl, sym, ap, subst, ◌∙◌, arith, inl, inr, length-append, append_assoc}
+use Rattle.std.proofs.Common.{◌≡◌, ℕ, suc, ◌+◌, ◌*◌, ◌<◌, ◌≤◌, Bool, true, false, eqb, ℤ, pos, negsuc, List, [], ◌∷◌, ◌++◌, length, get_or, map, Option, Some, None, refl, sym, ap, subst, ◌∙◌, arith, inl, inr, length-append, append_assoc}
 use Rattle.std.specs.Prelude.{All, not}
 use Rattle.std.specs.List.{flat_map, list_all}
 use Rattle.std.specs.Fmt.{decimal}
 use Rattle.std.proofs.lemmas.Int.{ints}
-use Rattle.std.proofs.lemmas.Bool.{and_parts, and_from, not-true}
+use Rattle.std.proofs.lemmas.Bool.{and_parts, not-true}
 use Rattle.std.proofs.lemmas.Fmt.{length-decimal-le}
 use Rattle.std.proofs.lemmas.List.{get_or-map, get_or_append_left, length-map}
-use Rattle.std.proofs.Math.Seq.{get_or-append-add, get_or-append_seam, take-append_seam}
+use Rattle.std.proofs.lemmas.List.Elements.{All-head, All-tail}
+use Rattle.std.proofs.Math.Seq.{get_or-append-add}
 use Rattle.flk_text.specs.WholeNumber.{IsWhole, IsWholeValue}
-use Rattle.flk_text.specs.Lines.{Lacks, is_byte, without_cr}
-use Rattle.flk_text.specs.Fields.{fields, joined_fields, IsField}
+use Rattle.flk_text.specs.Lines.{Lacks, without_cr}
+use Rattle.flk_text.specs.Fields.{fields, joined_fields}
 use Rattle.flk_text.proofs.PlainTextLemmas.{decimal_writes}
-use Rattle.flk_text.proofs.WrittenLaws.{fields_joined}
-use Rattle.flk_cfg.specs.Values.{IsWholeFrom, IsBit}
+use Rattle.flk_text.proofs.WrittenLaws.{fields_joined, lacks-append, cr_dropped}
+use Rattle.flk_cfg.specs.Values.{IsBit}
 use Rattle.flk_cfg.specs.declared.config.Form.TheVariants.{Ascii}
 use Rattle.flk_cfg.proofs.WrittenFields.{IsFree, free_cell, free-append, free_decimal, whole_is}
-use Rattle.flk_cfg.proofs.WrittenLines.{IsCell, AreCells, lacks-append}
+use Rattle.flk_cfg.proofs.WrittenLines.{AreCells, cell_at, joined_lacks}
 use Rattle.flk_dat.specs.Records.{DataRecord, Layout, HasWidth}
-use Rattle.flk_dat.specs.SampleFields.{most_number, most_stamp, IsNumber, IsStamp, IsSample}
-use Rattle.flk_dat.specs.AsciiRecords.{longest_line, field_total, IsRow, IsLine}
+use Rattle.flk_dat.specs.SampleFields.{most_number, most_stamp, IsSampleValue, IsNumber, IsStamp, IsSample}
+use Rattle.flk_dat.specs.AsciiRecords.{longest_line, IsRow, IsLine}
 use Rattle.flk_dat.specs.DataFile.{IsRecord}
 use Rattle.flk_dat.specs.Streams.{ends_line, IsUnended}
 use Rattle.flk_dat.specs.Written.{IsStampValue, IsAsciiRecord, whole_text, stamp_text, bit_text, value_field, bit_field, record_fields, written_line}
-use Rattle.flk_dat.proofs.WrittenText.{body_of, fields_joined_are}
+use Rattle.flk_dat.proofs.WrittenText.{fields_joined_are}
 use Rattle.flk_dat.proofs.LineEnds.{after_by, after_ended}
 use Rattle.flk_dat.proofs.AsciiSteps.{line_here}
-
--- an analog value that a line can write
-abbrev pub IsSampleValue : ℤ → Type 0
-IsSampleValue z = (negsuc 99998 ≤ℤ z) × (z ≤ℤ pos 99999)
-
-first_of_all : (P : ℤ → Type 0) (z : ℤ) (zs : List ℤ) → All P (z ∷ zs) → P z
-first_of_all P z zs all = all 0 z (omega arith)
-
-rest_of_all : (P : ℤ → Type 0) (z : ℤ) (zs : List ℤ) → All P (z ∷ zs) → All P zs
-rest_of_all P z zs all = λ k d lt. all (suc k) d (omega (arith, lt))
 
 -- ---- fields
 
@@ -101,7 +92,7 @@ free_bit false = record { comma = refl; space = refl; lf = refl; mark = refl }
 
 value_cells : (zs : List ℤ) (fs : List (List ℕ)) → All IsSampleValue zs → AreCells fs → AreCells (map whole_text zs ++ fs)
 value_cells [] fs all cells = cells
-value_cells (z ∷ zs) fs all cells = (free_cell (whole_text z) (free_value z (first_of_all IsSampleValue z zs all)), value_cells zs fs (rest_of_all IsSampleValue z zs all) cells)
+value_cells (z ∷ zs) fs all cells = (free_cell (whole_text z) (free_value z (All-head IsSampleValue z zs all)), value_cells zs fs (All-tail IsSampleValue z zs all) cells)
 
 bit_cells : (bs : List Bool) → AreCells (map bit_text bs)
 bit_cells [] = tt
@@ -110,17 +101,6 @@ bit_cells (b ∷ bs) = (free_cell (bit_text b) (free_bit b), bit_cells bs)
 pub record_cells : (r : DataRecord) → IsAsciiRecord r → AreCells (record_fields r)
 record_cells r is =
     (free_cell (decimal r.number) (free_decimal r.number (omega (arith, is.number))), (free_cell (stamp_text r.stamp) (free_stamp r.stamp is.stamp), value_cells r.analog (map bit_text r.digital) is.analog (bit_cells r.digital)))
-
-cell_at : (fs : List (List ℕ)) (k : ℕ) (d : List ℕ) → AreCells fs → k < length fs → IsField (get_or fs k d)
-cell_at [] k d cells lt = absurd (omega (arith, lt))
-cell_at (f ∷ fs) zero d cells lt = cells.0.field
-cell_at (f ∷ fs) (suc k) d cells lt = cell_at fs k d cells.1 (omega (arith, lt))
-
-joined_lacks : (c : ℕ) (fs : List (List ℕ)) → Lacks c (44 ∷ []) → ((f : List ℕ) → IsCell f → Lacks c f) → AreCells fs → Lacks c (joined_fields fs)
-joined_lacks c [] comma of cells = refl
-joined_lacks c (f ∷ []) comma of cells = of f cells.0
-joined_lacks c (f ∷ g ∷ gs) comma of cells =
-    lacks-append c f (44 ∷ joined_fields (g ∷ gs)) (of f cells.0) (lacks-append c (44 ∷ []) (joined_fields (g ∷ gs)) comma (joined_lacks c (g ∷ gs) comma of cells.1))
 
 -- ---- the fields are those of the record
 
@@ -166,7 +146,7 @@ value_short (negsuc n) range =
 values_short : (zs : List ℤ) → All IsSampleValue zs → length (flat_map value_field zs) ≤ 7 * length zs
 values_short [] all = omega arith
 values_short (z ∷ zs) all =
-    omega (arith, value_short z (first_of_all IsSampleValue z zs all), values_short zs (rest_of_all IsSampleValue z zs all), length-append (value_field z) (flat_map value_field zs))
+    omega (arith, value_short z (All-head IsSampleValue z zs all), values_short zs (All-tail IsSampleValue z zs all), length-append (value_field z) (flat_map value_field zs))
 
 bits_short : (bs : List Bool) → length (flat_map bit_field bs) ≤ 2 * length bs
 bits_short [] = omega arith
@@ -194,12 +174,6 @@ line_written analog digital r few some w is =
     record { short = line_short analog digital r few some w is; row = subst (λ (fs : List (List ℕ)). IsRow analog digital fs r) (sym same) (row_written analog digital r w is) }
 
 -- ---- the line and its end
-
-cr_dropped : (line : List ℕ) → without_cr (line ++ (13 ∷ [])) ≡ line
-cr_dropped line =
-    let last : length (line ++ (13 ∷ [])) - 1 ≡ length line = omega (arith, length-append line (13 ∷ [])) in
-    let cr : get_or (line ++ (13 ∷ [])) (length line) 0 ≡ 13 = get_or-append_seam line 13 [] 0 in
-    rw (last, cr) (take-append_seam line (13 ∷ []))
 
 no_end : (last : Bool) (xs : List ℕ) → Lacks 10 xs → Lacks 26 xs → IsUnended last xs
 no_end last [] a b = refl

@@ -1,22 +1,22 @@
 -- A canonical BINARY record is read back.
-use Rattle.std.proofs.Common.{◌≡◌, ℕ, zero, suc, ◌+◌, ◌-◌, ◌*◌, ◌/◌, ◌%◌, ◌^◌, ◌<◌, ◌≤◌, Bool, true, false, cond, eqb, ℤ, pos, negsuc, ◌≤ℤ◌, List, [], ◌∷◌, ◌++◌, length, get_or, take, drop, Option, Some, None, refl, sym, ap, subst, ◌∙◌, arith, inl, inr, length-append, length-take, length-drop, append_assoc, append-nil}
-use Rattle.std.specs.Prelude.{All, FitsSigned}
+use Rattle.std.proofs.Common.{◌≡◌, ℕ, zero, suc, ◌+◌, ◌*◌, ◌/◌, ◌%◌, ◌^◌, ◌<◌, ◌≤◌, Bool, true, false, cond, eqb, ℤ, pos, negsuc, ◌≤ℤ◌, List, [], ◌∷◌, ◌++◌, length, get_or, take, drop, Option, Some, None, refl, sym, ap, subst, ◌∙◌, arith, length-append, length-take, append_assoc}
+use Rattle.std.specs.Prelude.{FitsSigned}
 use Rattle.std.specs.List.{flat_map, range_with_len}
 use Rattle.std.specs.Int.{w16, cast_signed, cast_unsigned}
 use Rattle.std.proofs.lemmas.Int.{ints, to_z-of_z}
 use Rattle.std.proofs.Math.Facts.{Fits-of_z}
-use Rattle.std.proofs.Math.Nat.{zero-div, pow-le-pow_right, pow-succ', div-div-eq-div-mul, mod-lt, div-add-mod'}
+use Rattle.std.proofs.Math.Nat.{zero-div, pow-le-pow_right, pow-succ', div-div-eq-div-mul}
 use Rattle.std.proofs.Math.Seq.{drop-append_seam, drop-append-add}
 use Rattle.std.proofs.lemmas.List.{get_or-take, get_or-drop}
 use Rattle.std.proofs.lemmas.List.FromFn.{get_or-range_with_len, length-range_with_len}
 use Rattle.byteorder.specs.Endian.{little_bytes, little_number}
 use Rattle.byteorder.specs.Numbers.{little_number-reads_back, length-bytes_low_first}
 use Rattle.flk_cfg.specs.declared.config.Form.TheVariants.{Binary}
+use Rattle.flk_cfg.proofs.WrittenFields.{bit_small}
 use Rattle.flk_dat.specs.Records.{DataRecord, Layout, HasWidth}
-use Rattle.flk_dat.specs.BinaryRecords.{record_size, number_of, stamp_of, value_of, word_of, bit_of, IsBinary}
+use Rattle.flk_dat.specs.BinaryRecords.{record_size, number_of, stamp_of, value_of, word_of, bit_of}
 use Rattle.flk_dat.specs.DataFile.{IsRecord}
 use Rattle.flk_dat.specs.Written.{IsWordStamp, IsBinaryRecord, stamp_number, value_bytes, bits_number, word_bytes, written_binary}
-use Rattle.flk_dat.proofs.WrittenBits.{bit_small}
 use Rattle.flk_dat.proofs.BinarySteps.{binary_record}
 
 -- ---- pieces of one length

@@ -1,5 +1,5 @@
 -- The records of an ASCII file (IEEE C37.111-1999, clause 6.4), each a line of fields between commas.
-use Rattle.std.specs.Prelude.{◌≡◌, ◌≢◌, ℕ, ◌+◌, ◌-◌, ◌<◌, ◌≤◌, ◌⊎◌, Bool, true, false, cond, eqb, ltb, List, [], length, get_or, slice_index_or, ℤ, pos, Option}
+use Rattle.std.specs.Prelude.{◌≡◌, ◌≢◌, ℕ, ◌+◌, ◌-◌, ◌<◌, ◌≤◌, ◌⊎◌, Bool, true, false, cond, eqb, ltb, List, [], length, get_or, slice_index_or, pos, Option}
 use Rattle.std.specs.List.{list_all}
 use Rattle.flk_text.specs.Lines.{is_byte}
 use Rattle.flk_text.specs.Fields.{fields}

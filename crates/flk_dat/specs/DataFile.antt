@@ -1,7 +1,7 @@
 -- The data file (IEEE C37.111-1999, clause 6): which bytes write which records, and the first fault of bytes that write none. A
 -- record is counted from 0 here, and from 1 where it is named.
 use Rattle.std.specs.Prelude.{◌≡◌, ℕ, ◌+◌, ◌-◌, ◌*◌, ◌<◌, ◌≤◌, ◌⊎◌, cond, eqb, List, [], length, drop, Option}
-use Rattle.flk_text.specs.Lines.{line_of, after_line, last_line_of, tail_of}
+use Rattle.flk_text.specs.Lines.{line_of, last_line_of, tail_of}
 use Rattle.flk_text.specs.Tail.{IsTail}
 use Rattle.flk_cfg.specs.Places.{after_lines}
 use Rattle.flk_cfg.specs.declared.config.Form.{Form}

@@ -1,9 +1,10 @@
 -- The fields of an ASCII record (IEEE C37.111-1999, clause 6.4): the set of each field, and the kind of a field that isn't in its
 -- set. What a whole number is stands in the crate of COMTRADE text.
-use Rattle.std.specs.Prelude.{◌≡◌, ◌≢◌, ℕ, ◌^◌, ◌-◌, ◌⊎◌, Bool, true, List, [], ℤ, pos, negsuc, ◌≤ℤ◌, Option, Some, None}
+use Rattle.std.specs.Prelude.{◌≡◌, ◌≢◌, ℕ, ◌⊎◌, Bool, true, List, [], ℤ, pos, negsuc, ◌≤ℤ◌, Option, Some, None}
 use Rattle.flk_text.specs.WholeNumber.{IsWholeValue, IsWholeForm}
 use Rattle.flk_cfg.specs.Values.{IsWholeFrom, IsBit}
-use Rattle.flk_dat.specs.Records.{Follows}
+use Rattle.flk_cfg.specs.declared.config.Form.TheVariants.{Ascii}
+use Rattle.flk_dat.specs.Records.{Follows, missing_value}
 use Rattle.flk_dat.specs.declared.kind.Kind.{Kind}
 use Rattle.flk_dat.specs.declared.kind.Kind.TheVariants as kinds
 
@@ -13,6 +14,16 @@ most_number = 4294967295
 
 abbrev pub most_stamp : ℕ
 most_stamp = 9999999999
+
+-- a value that an analog field can write: from -99999 to 99999
+abbrev pub least_sample : ℤ
+least_sample = negsuc 99998
+
+abbrev pub most_sample : ℤ
+most_sample = pos 99999
+
+abbrev pub IsSampleValue : ℤ → Type 0
+IsSampleValue z = (least_sample ≤ℤ z) × (z ≤ℤ most_sample)
 
 -- a sample number
 abbrev pub IsNumber : List ℕ → ℕ → Type 0
@@ -26,8 +37,8 @@ IsStamp f (Some n) = IsWholeFrom 0 most_stamp f n
 -- an analog value: a whole number from -99999 to 99999
 pub record IsSample (f : List ℕ) (z : ℤ) : Type 0 where
   pub value : IsWholeValue f z
-  pub at_least : negsuc 99998 ≤ℤ z
-  pub at_most : z ≤ℤ pos 99999
+  pub at_least : least_sample ≤ℤ z
+  pub at_most : z ≤ℤ most_sample
 
 -- the sets of the fields: a sample number that follows the one before, a time stamp, an analog value, which may be missing only in
 -- a channel that isn't selected, and a digital value, 0 or 1
@@ -39,7 +50,7 @@ pub data Set : Type 0 where
 
 -- the value isn't missing in a selected channel
 abbrev pub IsThere : (selected : Bool) → ℤ → Type 0
-IsThere selected z = selected ≡ true → z ≢ pos 99999
+IsThere selected z = selected ≡ true → z ≢ missing_value Ascii
 
 -- the field is in the set
 unfoldable pub IsIn : Set → List ℕ → Type 0
@@ -62,5 +73,5 @@ NoSample f kind =
 unfoldable pub Refuses : Set → List ℕ → Kind → Type 0
 Refuses (Number before) f kind = NoWhole most_number f kind ⊎ ((kind ≡ kinds.Order) × (n : ℕ) × IsNumber f n × (Follows before n → ⊥))
 Refuses Stamp f kind = (f ≢ []) × NoWhole most_stamp f kind
-Refuses (Analog selected) f kind = NoSample f kind ⊎ ((kind ≡ kinds.Missing) × (selected ≡ true) × IsSample f (pos 99999))
+Refuses (Analog selected) f kind = NoSample f kind ⊎ ((kind ≡ kinds.Missing) × (selected ≡ true) × IsSample f (missing_value Ascii))
 Refuses Digital f kind = NoWhole 1 f kind

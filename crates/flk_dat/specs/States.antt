@@ -1,5 +1,5 @@
 -- What a reader stands for: the bytes that it has taken, and the records that it has given.
-use Rattle.std.specs.Prelude.{◌≡◌, ℕ, ◌+◌, ◌<◌, ◌≤◌, List, [], length, Option, Some, None}
+use Rattle.std.specs.Prelude.{◌≡◌, ℕ, ◌<◌, List, length, Option, None}
 use Rattle.std.specs.List.{count_by}
 use Rattle.flk_text.specs.Lines.{is_byte}
 use Rattle.flk_dat.specs.Records.{DataRecord, Rows, Layout, last_number}
@@ -10,7 +10,7 @@ use Rattle.flk_dat.specs.declared.kind.DatFault.{DatFault}
 
 -- the layout of the records that the reader reads
 abbrev pub layout : Reader → Layout
-layout r = record { form = r.form; records = r.records; selected = r.row.selected.items; digital = length r.row.digital.items }
+layout r = record { form = r.form; records = r.records; selected = r.channels.selected.items; digital = r.channels.digital }
 
 -- the fault that the reader keeps
 abbrev pub kept_fault : Reader → Option DatFault
@@ -32,5 +32,5 @@ pub record Stands (r : Reader) (taken : List ℕ) (given : List DataRecord) : Ty
 
 -- the block has columns for the reader's channels
 pub record Fits (r : Reader) (b : Rows) : Type 0 where
-  pub analog : b.analog ≡ length r.row.selected.items
-  pub digital : b.digital ≡ length r.row.digital.items
+  pub analog : b.analog ≡ length r.channels.selected.items
+  pub digital : b.digital ≡ r.channels.digital

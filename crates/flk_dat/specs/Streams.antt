@@ -1,5 +1,5 @@
 -- A data file that comes in pieces: what the bytes taken so far give, whatever follows them.
-use Rattle.std.specs.Prelude.{◌≡◌, ◌≢◌, ℕ, ◌+◌, ◌-◌, ◌<◌, ◌≤◌, ◌⊎◌, ◌||◌, Bool, true, false, cond, not, eqb, List, [], ◌∷◌, ◌++◌, length, drop, slice_index}
+use Rattle.std.specs.Prelude.{◌≡◌, ℕ, ◌+◌, ◌<◌, ◌≤◌, ◌⊎◌, Bool, true, cond, not, eqb, List, [], ◌∷◌, ◌++◌, length, drop, slice_index}
 use Rattle.std.specs.List.{list_all}
 use Rattle.flk_text.specs.Lines.{is_byte, ends_last_line}
 use Rattle.flk_cfg.specs.declared.config.Form.{Form}

@@ -1,4 +1,4 @@
--- How much of the tail a line's end is. Only proofs use this file.
+-- How much of the tail a line's end is. Contracts of private functions cite this file.
 use Rattle.std.specs.Prelude.{ℕ, cond, eqb}
 use Rattle.flk_dat.specs.declared.tail.Tail.{Tail}
 

@@ -1,5 +1,5 @@
--- What the parts of a reader's calls do. Only proofs use this file.
-use Rattle.std.specs.Prelude.{◌≡◌, ℕ, ◌+◌, ◌-◌, ◌<◌, ◌≤◌, ◌⊎◌, List, [], ◌++◌, length, take, Some}
+-- What the parts of a reader's calls do. Contracts of private functions cite this file.
+use Rattle.std.specs.Prelude.{◌≡◌, ℕ, ◌+◌, ◌-◌, ◌<◌, ◌≤◌, ◌⊎◌, List, ◌++◌, length, take, Some}
 use Rattle.flk_dat.specs.Records.{DataRecord, Rows}
 use Rattle.flk_dat.specs.DataFile.{IsAccepted, IsFaultAfter}
 use Rattle.flk_dat.specs.Streams.{EndsRecord, added, Grows}

@@ -1,5 +1,5 @@
 -- The canonical bytes of a record (IEEE C37.111-1999, clause 6).
-use Rattle.std.specs.Prelude.{◌≡◌, ℕ, suc, ◌+◌, ◌*◌, ◌/◌, ◌<◌, ◌≤◌, ◌^◌, cond, Bool, List, [], ◌∷◌, ◌++◌, length, map, take, drop, All, codes, ℤ, pos, negsuc, ◌≤ℤ◌, Option, Some, None}
+use Rattle.std.specs.Prelude.{ℕ, suc, ◌+◌, ◌*◌, ◌/◌, ◌<◌, ◌≤◌, ◌^◌, cond, Bool, List, [], ◌∷◌, ◌++◌, length, map, take, drop, All, codes, ℤ, pos, negsuc, ◌≤ℤ◌, Option, Some, None}
 use Rattle.std.specs.List.{flat_map, range_with_len}
 use Rattle.std.specs.Fmt.{decimal}
 use Rattle.std.specs.Int.{w16, cast_unsigned}
@@ -8,7 +8,7 @@ use Rattle.flk_text.specs.Fields.{joined_fields}
 use Rattle.flk_cfg.specs.declared.config.Form.{Form}
 use Rattle.flk_cfg.specs.declared.config.Form.TheVariants.{Ascii, Binary}
 use Rattle.flk_dat.specs.Records.{DataRecord}
-use Rattle.flk_dat.specs.SampleFields.{most_number, most_stamp}
+use Rattle.flk_dat.specs.SampleFields.{most_number, most_stamp, IsSampleValue}
 
 -- ---- the sets of the values
 
@@ -21,7 +21,7 @@ IsStampValue (Some n) = n ≤ most_stamp
 pub record IsAsciiRecord (r : DataRecord) : Type 0 where
   pub number : r.number ≤ most_number
   pub stamp : IsStampValue r.stamp
-  pub analog : All (λ z. (negsuc 99998 ≤ℤ z) × (z ≤ℤ pos 99999)) r.analog
+  pub analog : All IsSampleValue r.analog
 
 -- a time stamp of four bytes
 abbrev pub IsWordStamp : Option ℕ → Type 0

@@ -1,9 +1,16 @@
 //! Records, whole in memory.
 
-ghost use Rattle.std.specs.Prelude.{◌≡◌, ◌+◌, ◌*◌, ◌<◌, ◌≤◌, ◌^◌, take, drop, [], ◌∷◌, ◌++◌, length, slice_index_or, IfOk, pos, false};
+ghost use Rattle.std.specs.Prelude.{◌≡◌, ◌+◌, ◌*◌, ◌<◌, ◌≤◌, ◌^◌, take, drop, [], ◌∷◌, ◌++◌, length, slice_index_or, IfOk, MatchResult, pos, false};
+ghost use Rattle.flk_text.specs.Lines.{without_cr};
 ghost use Rattle.flk_cfg.specs.Valid.{IsValid};
+ghost use Rattle.flk_cfg.specs.declared.config.Form.TheVariants as forms;
 ghost use Rattle.flk_dat.specs.Records.{IsBlockFor, AreRows, HasWidth, record_at};
+ghost use Rattle.flk_dat.specs.AsciiRecords.{IsLine, LineFault};
+ghost use Rattle.flk_dat.specs.BinaryRecords.{IsBinary, WholeFault, record_size};
+ghost use Rattle.flk_dat.specs.Heads.{Gains};
 
+use crate::kind::Fault;
+use crate::rows::{read_binary_row, read_line_row};
 use flk_cfg::Config;
 use std::alloc::{AllocError, Global};
 use std::marker::Model;
@@ -134,6 +141,67 @@ impl Block {
         place(&mut self.bits, row, digital);
         self.rows = row + 1;
     }
+
+    /// Reads an ASCII line, which may have a CR at its end, and puts its record at the end. It answers the record's number.
+    pub(crate) fn read_line(
+        &mut self,
+        bytes: &[u8],
+        selected: &[bool],
+        before: Option<u32>,
+    ) -> Result<u32, Fault>
+        requires room { length self.old.records < self.old.room }
+        requires analog { self.old.analog ≡ length selected.now }
+        requires few { (length selected.now ≤ 256) × (self.old.digital ≤ 256) }
+        ensures { MatchResult result
+            (Gains (IsLine (length selected.now) self.old.digital (without_cr bytes.now)) forms.Ascii selected.now before self.old self.new)
+            (λ f. (self.new ≡ self.old) × LineFault selected.now self.old.digital before (without_cr bytes.now) f.field f.kind) }
+    {
+        let row = self.rows;
+        let head = read_line_row(
+            &mut self.values,
+            &mut self.bits,
+            row,
+            self.digital,
+            bytes,
+            selected,
+            before,
+        )?;
+        self.numbers[row] = head.number;
+        self.stamps[row] = head.stamp;
+        self.rows = row + 1;
+        Ok(head.number)
+    }
+
+    /// Reads the BINARY record with which the bytes begin, and puts it at the end. It answers the record's number.
+    pub(crate) fn read_binary(
+        &mut self,
+        bytes: &[u8],
+        selected: &[bool],
+        before: Option<u32>,
+    ) -> Result<u32, Fault>
+        requires room { length self.old.records < self.old.room }
+        requires analog { self.old.analog ≡ length selected.now }
+        requires few { (length selected.now ≤ 256) × (self.old.digital ≤ 256) }
+        requires whole { record_size (length selected.now) self.old.digital ≤ length bytes.now }
+        ensures { MatchResult result
+            (Gains (IsBinary (length selected.now) self.old.digital bytes.now) forms.Binary selected.now before self.old self.new)
+            (λ f. (self.new ≡ self.old) × WholeFault selected.now before bytes.now f.field f.kind) }
+    {
+        let row = self.rows;
+        let head = read_binary_row(
+            &mut self.values,
+            &mut self.bits,
+            row,
+            self.digital,
+            bytes,
+            selected,
+            before,
+        )?;
+        self.numbers[row] = head.number;
+        self.stamps[row] = head.stamp;
+        self.rows = row + 1;
+        Ok(head.number)
+    }
 }
 
 /// Puts a row of values in its place among rows of its length.
@@ -146,10 +214,9 @@ fn place<T: Copy>(all: &mut Vec<T>, row: usize, values: &[T])
     all[from..from + values.len()].copy_from_slice(values);
 }
 
-/// What may be shared by threads and handed from one to another.
-fn crosses<T: Send + Sync>(_: &T) {}
+fn crosses_threads<T: Send + Sync>(_value: &T) {}
 
-/// A block may be shared by threads and handed from one to another.
-pub fn block_crosses(block: &Block) {
-    crosses(block);
+// A block can be handed to another thread, and seen by several at once.
+fn block_crosses_threads(block: &Block) {
+    crosses_threads(block);
 }

@@ -1,6 +1,6 @@
 //! Single fields of an ASCII record against their sets.
 
-ghost use Rattle.std.specs.Prelude.{◌≡◌, ◌<◌, ◌≤◌, ◌^◌, ◌↔◌, IsTrue, ℕ, pos, MatchResult};
+ghost use Rattle.std.specs.Prelude.{◌<◌, ◌≤◌, ◌^◌, ◌↔◌, IsTrue, MatchResult};
 ghost use Rattle.flk_cfg.specs.Values.{IsWholeFrom, IsBit};
 ghost use Rattle.flk_dat.specs.Records.{Follows};
 ghost use Rattle.flk_dat.specs.SampleFields.{IsNumber, IsStamp, IsSample, IsThere, Number, Stamp, Analog, Digital, NoWhole, NoSample, Refuses};
@@ -10,6 +10,9 @@ use flk_text::{NumFault, whole};
 
 /// The greatest time stamp.
 const MOST_STAMP: u64 = 9_999_999_999;
+
+/// The greatest analog value; the least is as far below 0.
+const MOST_SAMPLE: i64 = 99_999;
 
 /// The analog value that marks a missing sample.
 const MISSING: i32 = 99_999;
@@ -72,7 +75,7 @@ fn sample(field: &[u8]) -> Result<i32, Kind>
     ensures { MatchResult result (λ z. IsSample field.now z) (λ kind. NoSample field.now kind) }
 {
     match whole(field) {
-        Ok(value) if -99_999 <= value && value <= 99_999 => Ok(value as i32),
+        Ok(value) if -MOST_SAMPLE <= value && value <= MOST_SAMPLE => Ok(value as i32),
         Ok(_) => Err(Kind::Range),
         Err(NumFault::Range) => Err(Kind::Range),
         Err(NumFault::Syntax) => Err(Kind::Number),

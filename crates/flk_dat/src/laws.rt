@@ -1,9 +1,10 @@
 //! Laws of the definitions. Each function here has an empty body, and its contract is the law. Nothing here runs.
 
-ghost use Rattle.std.specs.Prelude.{◌≡◌, ℕ, ◌+◌, ◌<◌, ◌≤◌, ◌⊎◌, ◌++◌, List, length};
+ghost use Rattle.std.specs.Prelude.{◌≡◌, ℕ, ◌+◌, ◌*◌, ◌<◌, ◌≤◌, ◌⊎◌, ◌++◌, List, length};
 ghost use Rattle.std.specs.List.{flat_map};
 ghost use Rattle.flk_dat.specs.Records.{DataRecord, Layout, HasWidth, AreConsecutive, record_at};
-ghost use Rattle.flk_dat.specs.DataFile.{AreFirst, IsFile, IsAccepted, IsFaultAfter, IsFirstFault};
+ghost use Rattle.flk_dat.specs.AsciiRecords.{longest_line};
+ghost use Rattle.flk_dat.specs.DataFile.{longest_tail, AreFirst, IsFile, IsAccepted, IsFaultAfter, IsFirstFault};
 ghost use Rattle.flk_dat.specs.Written.{IsWritable, written_record};
 ghost use Rattle.flk_dat.specs.States.{layout, Stands};
 ghost use Rattle.flk_dat.specs.declared.kind.Kind.{Kind as FaultKind};
@@ -37,6 +38,12 @@ pub fn bytes_are_accepted_or_have_a_fault()
 /// reader answers a fault in the call in which the bytes taken first have it.
 pub fn standing_bytes_have_no_sure_fault()
     ensures { (r : State) (taken : List ℕ) (given : List DataRecord) (row field : ℕ) (kind : FaultKind) → Stands r taken given → ((more : List ℕ) → IsFirstFault (layout r) (taken ++ more) row field kind) → ⊥ }
+{}
+
+/// What a reader has taken without a fault is bounded: a record is a line of at most 16,384 bytes with an end of at most 2, or is
+/// shorter, and what is left behind the records given has at most 65,536 bytes. So a file that never ends has a fault.
+pub fn taken_bytes_are_bounded()
+    ensures { (r : State) (taken : List ℕ) (given : List DataRecord) → Stands r taken given → length taken ≤ (longest_line + 2) * (layout r).records + longest_tail }
 {}
 
 /// Canonical records one after another, with numbers that follow each other, are the file of these records. So what is written by

@@ -13,6 +13,7 @@
 
 mod binary;
 mod block;
+mod channels;
 mod fields;
 mod head;
 mod held;
@@ -23,15 +24,16 @@ mod push_binary;
 mod push_line;
 mod reader;
 mod rest;
-mod row;
+mod rows;
 mod tail;
 mod write;
 
-pub use block::{Block, block_crosses};
+pub use block::Block;
 pub use kind::{DatFault, Kind};
 pub use laws::{
     accepted_bytes_have_no_fault, bytes_are_accepted_or_have_a_fault, bytes_have_one_first_fault,
-    bytes_have_one_list_of_records, standing_bytes_have_no_sure_fault, written_records_are_a_file,
+    bytes_have_one_list_of_records, standing_bytes_have_no_sure_fault, taken_bytes_are_bounded,
+    written_records_are_a_file,
 };
 pub use reader::Reader;
 pub use write::write_record;

@@ -1,6 +1,6 @@
 //! ASCII records.
 
-ghost use Rattle.std.specs.Prelude.{◌≡◌, ◌+◌, ◌<◌, ◌≤◌, ◌∷◌, [], ℕ, ℤ, List, pos, false, length, drop, get_or, slice_index_or, OnOk, IfOk, IfErr};
+ghost use Rattle.std.specs.Prelude.{◌≡◌, ◌+◌, ◌<◌, ◌≤◌, ◌∷◌, [], ℕ, pos, false, length, drop, get_or, slice_index_or, OnOk, IfOk, IfErr};
 ghost use Rattle.std.specs.List.{list_all, position_or_len};
 ghost use Rattle.flk_text.specs.Lines.{is_byte, without_cr as without_cr_of};
 ghost use Rattle.flk_text.specs.Fields.{fields as fields_of};
@@ -15,7 +15,7 @@ ghost use Rattle.flk_cfg.specs.declared.config.Form.TheVariants as forms;
 use crate::fields::{analog_value, digital_value, sample_number, time_stamp};
 use crate::head::Head;
 use crate::kind::{Fault, Kind};
-use flk_text::{Fields, field_count};
+use flk_text::{Fields, field_count, last_line_end, position_of, without_cr};
 
 /// The most bytes of a line without its end.
 pub const LONGEST_LINE: usize = 16_384;
@@ -26,14 +26,11 @@ pub fn line_end(bytes: &[u8], last: bool) -> usize
     ensures place { result ≡ position_or_len (ends_line last) bytes.now }
     ensures within { result ≤ length bytes.now }
 {
-    let mut count = 0;
-    for byte in bytes {
-        if *byte == b'\n' || (last && *byte == 0x1a) {
-            return count;
-        }
-        count += 1;
+    if last {
+        last_line_end(bytes)
+    } else {
+        position_of(bytes, b'\n')
     }
-    count
 }
 
 /// Whether each byte is a space.
@@ -46,18 +43,6 @@ pub fn are_spaces(bytes: &[u8]) -> bool
         }
     }
     true
-}
-
-/// The bytes without one CR at their end.
-fn without_cr(bytes: &[u8]) -> &[u8]
-    ensures { result.now ≡ without_cr_of bytes.now }
-{
-    let count = bytes.len();
-    if count > 0 && bytes[count - 1] == b'\r' {
-        &bytes[..count - 1]
-    } else {
-        bytes
-    }
 }
 
 /// Takes the next field.

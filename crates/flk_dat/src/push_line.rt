@@ -1,34 +1,20 @@
 //! An ASCII record, appended to bytes that have room for it.
 
-ghost use Rattle.std.specs.Prelude.{◌≡◌, ◌+◌, ◌*◌, ◌<◌, ◌≤◌, ◌^◌, ◌++◌, ◌∷◌, [], length, pos, negsuc, ◌≤ℤ◌, vec_len, vec_capacity};
+ghost use Rattle.std.specs.Prelude.{◌≡◌, ◌+◌, ◌*◌, ◌<◌, ◌≤◌, ◌++◌, ◌∷◌, length, vec_len, vec_capacity};
 ghost use Rattle.std.specs.List.{flat_map};
-ghost use Rattle.std.specs.Fmt.{decimal};
 ghost use Rattle.flk_dat.specs.Records.{record_at, HasWidth};
-ghost use Rattle.flk_dat.specs.Written.{IsStampValue, IsAsciiRecord, whole_text, stamp_text, bit_text, written_line, value_field, bit_field};
+ghost use Rattle.flk_dat.specs.SampleFields.{IsSampleValue};
+ghost use Rattle.flk_dat.specs.Written.{IsStampValue, IsAsciiRecord, stamp_text, written_line, value_field, bit_field};
 
 use crate::block::Block;
-use itoa::Buffer;
+use flk_text::push_whole;
 
 /// At least the bytes of a field with its comma.
 pub const FIELD_ROOM: usize = 17;
 
-/// Appends a number without leading zeros.
-fn push_digits(out: &mut Vec<u8>, number: u64)
-    requires small { number < 10 ^ 15 }
-    requires room { vec_len out.old + 15 ≤ vec_capacity out.old }
-    ensures text { out.new.items ≡ out.old.items ++ decimal number }
-    ensures len { vec_len out.new ≤ vec_len out.old + 15 }
-    ensures capacity { vec_capacity out.new ≡ vec_capacity out.old }
-{
-    let mut buffer = Buffer::new();
-    for digit in buffer.format(number).as_bytes() {
-        out.push_reserved(*digit);
-    }
-}
-
 /// Appends a comma and an analog value.
 fn push_value(out: &mut Vec<u8>, value: i32)
-    requires range { (negsuc 99998 ≤ℤ value) × (value ≤ℤ pos 99999) }
+    requires range { IsSampleValue value }
     requires room { vec_len out.old + 17 ≤ vec_capacity out.old }
     ensures text { out.new.items ≡ out.old.items ++ value_field value }
     ensures len { vec_len out.new ≤ vec_len out.old + 17 }
@@ -38,7 +24,7 @@ fn push_value(out: &mut Vec<u8>, value: i32)
     if value < 0 {
         out.push_reserved(b'-');
     }
-    push_digits(out, u64::from(value.unsigned_abs()));
+    push_whole(out, u64::from(value.unsigned_abs()));
 }
 
 /// Appends a comma and a time stamp, or nothing behind the comma where there is none.
@@ -52,7 +38,7 @@ fn push_stamp(out: &mut Vec<u8>, stamp: Option<u64>)
     match stamp {
         Some(number) => {
             out.push_reserved(b',');
-            push_digits(out, number);
+            push_whole(out, number);
         }
         None => out.push_reserved(b','),
     }
@@ -109,7 +95,7 @@ pub fn push_line(out: &mut Vec<u8>, block: &Block, row: usize, analog: usize, di
     requires room { vec_len out.old + 17 * (analog + digital + 3) ≤ vec_capacity out.old }
     ensures { out.new.items ≡ out.old.items ++ written_line (record_at block.now.records row) }
 {
-    push_digits(out, u64::from(block.number(row)));
+    push_whole(out, u64::from(block.number(row)));
     push_stamp(out, block.stamp(row));
     push_values(out, block, row, analog);
     push_bits(out, block, row, digital);

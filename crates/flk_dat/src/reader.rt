@@ -1,11 +1,10 @@
 //! A reader of a data file that comes in pieces.
 
-ghost use Rattle.std.specs.Prelude.{◌≡◌, ℕ, ◌+◌, ◌-◌, ◌<◌, ◌≤◌, ◌∷◌, ◌++◌, [], List, length, take, IfOk, OnOk, IfErr, MatchResult, Some, Err};
+ghost use Rattle.std.specs.Prelude.{◌≡◌, ℕ, ◌+◌, ◌-◌, ◌<◌, ◌≤◌, ◌++◌, [], List, length, take, IfOk, OnOk, IfErr, OnErr, MatchResult, None, Some, Err};
 ghost use Rattle.flk_cfg.specs.Valid.{IsValid};
 ghost use Rattle.flk_dat.specs.Records.{DataRecord, Rows, IsBlockFor, layout_of};
 ghost use Rattle.flk_dat.specs.DataFile.{IsAccepted};
 ghost use Rattle.flk_dat.specs.BinaryRecords.{record_size};
-ghost use Rattle.flk_dat.specs.Heads.{headed};
 ghost use Rattle.flk_dat.specs.Kinds.{kind_number};
 ghost use Rattle.flk_dat.specs.Streams.{HasFault, EndsInFault, EndsRecord, added, Grows};
 ghost use Rattle.flk_dat.specs.declared.kind.DatFault.{DatFault as FaultView};
@@ -13,12 +12,11 @@ ghost use Rattle.flk_cfg.specs.declared.config.Form.TheVariants.{Binary};
 ghost use Rattle.flk_cfg.specs.declared.config.Form.TheVariants as forms;
 
 use crate::block::Block;
-use crate::head::Head;
+use crate::channels::Channels;
 use crate::held::{read_held_line, read_held_record};
 use crate::kind::{DatFault, Fault, Kind};
 use crate::line::{are_spaces, line_end};
 use crate::rest::Rest;
-use crate::row::Row;
 use crate::tail::Tail;
 use flk_cfg::{Config, Form};
 use std::alloc::{AllocError, Global};
@@ -40,7 +38,7 @@ const LONG: Fault = Fault {
 pub struct Reader {
     form: Form,
     records: u32,
-    row: Row,
+    channels: Channels,
     given: u32,
     before: Option<u32>,
     rest: Rest,
@@ -48,7 +46,7 @@ pub struct Reader {
     fault: Option<DatFault>,
     ghost some: { 0 < records },
     ghost within: { given ≤ records },
-    ghost part: { form ≡ Binary → length rest < record_size (length row.selected.items) (length row.digital.items) },
+    ghost part: { form ≡ Binary → length rest < record_size (length channels.selected.items) channels.digital },
 }
 
 impl Reader {
@@ -66,7 +64,7 @@ impl Reader {
         Ok(Reader {
             form: c.form,
             records: c.endsamp,
-            row: Row::new(
+            channels: Channels::new(
                 alloc,
                 c.analog.as_slice().len(),
                 c.digital.as_slice().len(),
@@ -84,8 +82,8 @@ impl Reader {
     /// took: the whole piece unless `out` becomes full, and then up to the end of the last record that fits; nothing where `out` is full
     /// already. A byte 1A before which the last ASCII record's line ends is taken with that record.
     ///
-    /// A fault is the first fault of the bytes taken whatever follows them; the records before it are in `out`. From then on the reader
-    /// answers that fault and appends nothing. It takes no memory.
+    /// A fault is the first fault of the bytes taken whatever follows them; the records before it are in `out`, which has room for more. From
+    /// then on the reader answers that fault and appends nothing. It takes no memory.
     pub fn feed(&mut self, piece: &[u8], out: &mut Block) -> Result<usize, DatFault>
         requires { Fits self.old out.old }
         ensures layout { layout self.new ≡ layout self.old }
@@ -101,6 +99,7 @@ impl Reader {
             → IfOk result (λ n. EndsRecord (layout self.old) (length (given ++ added out.old out.new) - 1) (taken ++ take n piece.now)) }
         ensures fault { (taken : List ℕ) (given : List DataRecord) → Stands self.old taken given
             → IfErr result (λ f. HasFault (layout self.old) (taken ++ piece.now) (given ++ added out.old out.new) f) }
+        ensures room { kept_fault self.old ≡ None → OnErr result (length out.new.records < out.new.room) }
         ensures keeps { IfErr result (λ f. kept_fault self.new ≡ Some f) }
         ensures kept { (f : FaultView) → kept_fault self.old ≡ Some f → (result ≡ Err f) × (out.new ≡ out.old) }
     {
@@ -156,7 +155,8 @@ impl Reader {
     /// Takes bytes up to the end of the piece, or to the end of the last record that fits.
     fn take(&mut self, piece: &[u8], out: &mut Block) -> Result<usize, Fault>
         requires { Fits self.old out.old }
-        ensures { MatchResult result (λ n. TakesAll self.old self.new out.old out.new piece.now n) (λ f. Stops self.old self.new out.old out.new piece.now f) }
+        ensures taken { MatchResult result (λ n. TakesAll self.old self.new out.old out.new piece.now n) (λ f. Stops self.old self.new out.old out.new piece.now f) }
+        ensures room { OnErr result (length out.new.records < out.new.room) }
     {
         let mut at = 0;
         while at < piece.len() && out.rows() < out.room() {
@@ -170,7 +170,8 @@ impl Reader {
         requires some { 0 < length piece.now }
         requires fits { Fits self.old out.old }
         requires room { length out.old.records < out.old.room }
-        ensures { MatchResult result (λ n. Takes self.old self.new out.old out.new piece.now n) (λ f. Stops self.old self.new out.old out.new piece.now f) }
+        ensures taken { MatchResult result (λ n. Takes self.old self.new out.old out.new piece.now n) (λ f. Stops self.old self.new out.old out.new piece.now f) }
+        ensures nothing { OnErr result (out.new ≡ out.old) }
     {
         if self.given == self.records {
             return self.take_tail(piece);
@@ -206,7 +207,8 @@ impl Reader {
         requires due { self.old.given < self.old.records }
         requires fits { Fits self.old out.old }
         requires room { length out.old.records < out.old.room }
-        ensures { MatchResult result (λ n. Takes self.old self.new out.old out.new piece.now n) (λ f. Stops self.old self.new out.old out.new piece.now f) }
+        ensures taken { MatchResult result (λ n. Takes self.old self.new out.old out.new piece.now n) (λ f. Stops self.old self.new out.old out.new piece.now f) }
+        ensures nothing { OnErr result (out.new ≡ out.old) }
     {
         let end = line_end(piece, self.given + 1 == self.records);
         if end == piece.len() {
@@ -215,9 +217,15 @@ impl Reader {
                 Err(fault) => Err(fault),
             };
         }
-        match read_held_line(&mut self.row, &mut self.rest, &piece[..end], self.before) {
-            Ok(head) => {
-                self.give(head, Tail::after(piece[end]), out);
+        match read_held_line(
+            out,
+            &mut self.rest,
+            &piece[..end],
+            &self.channels.selected,
+            self.before,
+        ) {
+            Ok(number) => {
+                self.count(number, Tail::after(piece[end]));
                 Ok(end + 1)
             }
             Err(fault) => Err(fault),
@@ -231,33 +239,36 @@ impl Reader {
         requires due { self.old.given < self.old.records }
         requires fits { Fits self.old out.old }
         requires room { length out.old.records < out.old.room }
-        ensures { MatchResult result (λ n. Takes self.old self.new out.old out.new piece.now n) (λ f. Stops self.old self.new out.old out.new piece.now f) }
+        ensures taken { MatchResult result (λ n. Takes self.old self.new out.old out.new piece.now n) (λ f. Stops self.old self.new out.old out.new piece.now f) }
+        ensures nothing { OnErr result (out.new ≡ out.old) }
     {
-        let due = self.row.size() - self.rest.as_slice().len();
+        let due = self.channels.size - self.rest.as_slice().len();
         if piece.len() < due {
             self.rest.hold(piece);
             return Ok(piece.len());
         }
-        match read_held_record(&mut self.row, &mut self.rest, &piece[..due], self.before) {
-            Ok(head) => {
-                self.give(head, Tail::new(), out);
+        match read_held_record(
+            out,
+            &mut self.rest,
+            &piece[..due],
+            &self.channels.selected,
+            self.before,
+        ) {
+            Ok(number) => {
+                self.count(number, Tail::new());
                 Ok(due)
             }
             Err(fault) => Err(fault),
         }
     }
 
-    /// Puts the record that was read into the block.
-    fn give(&mut self, head: Head, tail: Tail, out: &mut Block)
-        requires due { self.old.given < self.old.records }
-        requires fits { Fits self.old out.old }
-        requires room { length out.old.records < out.old.room }
-        ensures out { out.new ≡ record out.old { records = out.old.records ++ headed head self.old.row.analog.items self.old.row.digital.items ∷ [] } }
-        ensures state { Gives self.old self.new head.number tail }
+    /// Counts the record that was put into the block.
+    fn count(&mut self, number: u32, tail: Tail)
+        requires { self.old.given < self.old.records }
+        ensures { Gives self.old self.new number tail }
     {
-        self.row.push_to(head, out);
         self.given += 1;
-        self.before = Some(head.number);
+        self.before = Some(number);
         self.tail = tail;
     }
 
@@ -287,10 +298,10 @@ impl Reader {
         if are_spaces(self.rest.as_slice()) {
             return Err(SHORT);
         }
-        match self.row.line(self.rest.as_slice(), self.before) {
-            Ok(head) => {
+        match out.read_line(self.rest.as_slice(), &self.channels.selected, self.before) {
+            Ok(number) => {
                 self.rest.clear();
-                self.give(head, Tail::new(), out);
+                self.count(number, Tail::new());
                 if self.given == self.records {
                     Ok(())
                 } else {

@@ -1,11 +1,12 @@
 //! What follows the last record of an ASCII file.
 
-ghost use Rattle.std.specs.Prelude.{◌≡◌, ℕ, ◌+◌, ◌≤◌, ◌++◌, List, length, MatchOption, true, false};
-ghost use Rattle.std.specs.List.{list_all, count_by};
+ghost use Rattle.std.specs.Prelude.{◌≡◌, ℕ, ◌+◌, ◌≤◌, ◌++◌, List, length, MatchOption};
+ghost use Rattle.std.specs.List.{count_by};
 ghost use Rattle.flk_text.specs.Lines.{is_byte};
-ghost use Rattle.flk_text.specs.Tail.{is_tail_byte, IsTail};
 ghost use Rattle.flk_dat.specs.DataFile.{MayFollow};
 ghost use Rattle.flk_cfg.specs.declared.config.Form.TheVariants as forms;
+
+use flk_text::tail_marks;
 
 /// The most bytes of a tail.
 const LONGEST_TAIL: usize = 65_536;
@@ -15,22 +16,6 @@ const LONGEST_TAIL: usize = 65_536;
 pub struct Tail {
     pub bytes: usize,
     pub marks: usize,
-}
-
-/// How many bytes 1A are among the bytes, or None where one of them may not stand in a tail.
-fn marks_of(bytes: &[u8]) -> Option<usize>
-    ensures { MatchOption result (list_all is_tail_byte bytes.now ≡ false)
-        (λ n. (list_all is_tail_byte bytes.now ≡ true) × (n ≡ count_by (is_byte 26) bytes.now) × (n ≤ length bytes.now)) }
-{
-    let mut marks = 0;
-    for byte in bytes {
-        match *byte {
-            b'\r' | b'\n' | b' ' => {}
-            0x1a => marks += 1,
-            _ => return None,
-        }
-    }
-    Some(marks)
 }
 
 impl Tail {
@@ -60,7 +45,7 @@ impl Tail {
             → MatchOption result (MayFollow forms.Ascii (rest ++ piece.now) → ⊥)
             (λ t. (t.bytes ≡ length (rest ++ piece.now)) × (t.marks ≡ count_by (is_byte 26) (rest ++ piece.now)) × MayFollow forms.Ascii (rest ++ piece.now)) }
     {
-        let marks = marks_of(piece)?;
+        let marks = tail_marks(piece)?;
         if self.bytes > LONGEST_TAIL
             || piece.len() > LONGEST_TAIL - self.bytes
             || self.marks > 1

@@ -2,7 +2,7 @@ ghost use Rattle.std.specs.Prelude.{◌≡◌, ◌<◌, ◌^◌, pos, negsuc, �
 ghost use Rattle.flk_dat.specs.States.{Fits};
 
 use crate::{Block, DatFault, Reader, write_record};
-use flk_cfg::{Config, read_cfg, valid_cfg};
+use flk_cfg::{read_cfg, valid_cfg};
 use std::alloc::{AllocError, Global};
 use std::test::Fail;
 

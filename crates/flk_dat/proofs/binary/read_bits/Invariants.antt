@@ -1,4 +1,4 @@
-use Rattle.std.proofs.Common.{◌≡◌, ◌<◌, ℕ, false, length, get_or}
+use Rattle.std.proofs.Common.{◌≡◌, ◌<◌, ℕ, false, get_or}
 use Rattle.flk_dat.specs.BinaryRecords.{bit_of}
 use Rattle.flk_dat.proofs.binary.read_bits.Given as goal
 

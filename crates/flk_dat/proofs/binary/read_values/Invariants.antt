@@ -1,4 +1,4 @@
-use Rattle.std.proofs.Common.{◌≡◌, ◌≢◌, ◌<◌, ℕ, pos, true, false, length, get_or}
+use Rattle.std.proofs.Common.{◌≡◌, ◌≢◌, ◌<◌, ℕ, pos, true, false, get_or}
 use Rattle.flk_cfg.specs.declared.config.Form.TheVariants as forms
 use Rattle.flk_dat.specs.Records.{missing_value}
 use Rattle.flk_dat.specs.BinaryRecords.{value_of}

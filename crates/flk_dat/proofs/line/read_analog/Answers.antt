@@ -1,8 +1,8 @@
-use Rattle.std.proofs.Common.{◌≡◌, ◌<◌, ℕ, List, [], length, get_or, drop, refl, subst, sym, arith, rules, pos, false, ℤ}
+use Rattle.std.proofs.Common.{◌<◌, ℕ, List, [], length, get_or, refl, subst, arith, rules, pos, false}
 use Rattle.std.specs.Prelude.{FitsSigned}
 use Rattle.std.specs.Int.{w32}
 use Rattle.std.proofs.lemmas.Int.{to_z-of_z}
-use Rattle.flk_dat.specs.SampleFields.{Analog, IsIn, Refuses, IsSample, IsThere}
+use Rattle.flk_dat.specs.SampleFields.{Analog, Refuses, IsSample, IsThere}
 use Rattle.flk_dat.proofs.Elements.{each_set}
 use Rattle.flk_dat.proofs.RowLemmas.{field_taken, fields_left_then, analog_in}
 use Rattle.flk_dat.proofs.line.read_analog.Goals as goal

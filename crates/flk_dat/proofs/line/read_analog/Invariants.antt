@@ -1,4 +1,4 @@
-use Rattle.std.proofs.Common.{◌≡◌, ◌<◌, ℕ, [], pos, false, length, drop, get_or}
+use Rattle.std.proofs.Common.{◌≡◌, ◌<◌, ℕ, [], pos, false, drop, get_or}
 use Rattle.flk_dat.specs.SampleFields.{IsSample, IsThere}
 use Rattle.flk_dat.proofs.line.read_analog.Given as goal
 

@@ -1,4 +1,4 @@
-use Rattle.std.proofs.Common.{◌≡◌, ◌<◌, ℕ, List, [], get_or, length, refl, subst, arith, false, Bool}
+use Rattle.std.proofs.Common.{◌<◌, ℕ, List, [], get_or, length, refl, subst, arith, false}
 use Rattle.flk_cfg.specs.Values.{IsBit}
 use Rattle.flk_dat.specs.SampleFields.{Digital, Refuses}
 use Rattle.flk_dat.proofs.Elements.{each_set}

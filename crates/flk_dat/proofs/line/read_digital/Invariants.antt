@@ -1,4 +1,4 @@
-use Rattle.std.proofs.Common.{◌≡◌, ◌<◌, ℕ, [], false, length, drop, get_or}
+use Rattle.std.proofs.Common.{◌≡◌, ◌<◌, ℕ, [], false, drop, get_or}
 use Rattle.flk_cfg.specs.Values.{IsBit}
 use Rattle.flk_dat.proofs.line.read_digital.Given as goal
 

@@ -1,11 +1,12 @@
-use Rattle.std.proofs.Common.{◌≡◌, ◌≢◌, ◌+◌, ◌<◌, ◌≤◌, ℕ, ℤ, List, [], get_or, length, drop, refl, sym, ap, subst, ◌∙◌, arith, true, false, Bool, pos, inl, inr, Option}
+use Rattle.std.proofs.Common.{◌≡◌, ◌+◌, ◌<◌, ◌≤◌, ℕ, ℤ, List, [], get_or, length, drop, sym, ap, subst, ◌∙◌, arith, false, Bool, pos, inl, inr, Option}
 use Rattle.std.proofs.lemmas.List.{get_or-drop, get_or_past, drop-drop}
 use Rattle.std.proofs.lemmas.Bool.{cases_lt, true≢false}
 use Rattle.flk_cfg.specs.Values.{IsBit}
 use Rattle.flk_dat.specs.Records.{Follows}
-use Rattle.flk_dat.specs.SampleFields.{Number, Stamp, Analog, Digital, IsIn, IsSample, IsNumber, IsStamp}
+use Rattle.flk_dat.specs.SampleFields.{Analog, Digital, IsSample, IsNumber, IsStamp}
 use Rattle.flk_dat.specs.AsciiRecords.{column, field_total, IsFirstOut}
-use Rattle.flk_dat.proofs.RowLemmas.{fault_exit, number_in, stamp_in, analog_in, head_are_in, analog_are_in, fault_in_head, fault_in_analog, fault_in_digital, AreIn}
+use Rattle.flk_cfg.proofs.Steps.{err_exit}
+use Rattle.flk_dat.proofs.RowLemmas.{number_in, stamp_in, analog_in, head_are_in, analog_are_in, fault_in_head, fault_in_analog, fault_in_digital, AreIn}
 use Rattle.flk_text.specs.Fields.{fields}
 use Rattle.flk_dat.specs.Heads.{head_column}
 use Rattle.flk_dat.proofs.line.read_fields.Goals as goal
@@ -22,7 +23,7 @@ returns-in_err-head-clause-fault c =
     let f = c.in_err-head.field-0.0 in
     let e = c.in_err-head.ensures.fault in
     let room : 2 ≤ total = omega arith in
-    fault_exit c.from_residual.result (λ _. Unit {0}) (FaultOf selected c.args.before (length c.args.digital.now) all) f c.from_residual.ensures.1
+    err_exit c.from_residual.result (λ _. Unit {0}) (FaultOf selected c.args.before (length c.args.digital.now) all) f c.from_residual.ensures.1
     (e.0, e.1, fault_in_head selected c.args.before total all e.0 f.kind room (subst (λ (x : List (List ℕ)). IsFirstOut (head_column c.args.before) 2 x e.0 f.kind) c.new-fields.ensures e.2))
 
 -- the first two fields are in their sets
@@ -53,7 +54,7 @@ returns-in_err-read_analog-clause-fault c =
     let left : c.read_head.new.fields ≡ drop 2 all = c.in_ok-head.ensures.left ∙ ap (drop 2) c.new-fields.ensures in
     let good = head_good selected c.args.before all c.new-fields.result head.number head.stamp c.new-fields.ensures c.in_ok-head.ensures.head in
     let place : f.field ≡ 2 + e.0 + 1 = omega (arith, e.1) in
-    fault_exit c.from_residual-in_err-read_analog.result (λ _. Unit {0}) (FaultOf selected c.args.before digital all) f c.from_residual-in_err-read_analog.ensures.1
+    err_exit c.from_residual-in_err-read_analog.result (λ _. Unit {0}) (FaultOf selected c.args.before digital all) f c.from_residual-in_err-read_analog.ensures.1
     (2 + e.0, place, fault_in_analog selected c.args.before digital all e.0 f.kind good (subst (λ (x : List (List ℕ)). IsFirstOut (λ j. Analog (get_or selected j false)) (length selected) x e.0 f.kind) left e.2))
 
 pub returns-in_err-read_digital-clause-fault : goal.returns-in_err-read_digital-clause-fault
@@ -72,7 +73,7 @@ returns-in_err-read_digital-clause-fault c =
     (λ j lt. analog_in (get_or selected j false) (get_or all (2 + j) []) (get_or c.read_analog.new.values j (pos 0)) (samples j lt) (c.in_ok-read_analog.ensures.present j lt)) in
     let rest = left_after (length selected) all c.read_head.new.fields c.read_analog.new.fields left c.in_ok-read_analog.ensures.left in
     let place : f.field ≡ 2 + length selected + e.0 + 1 = omega (arith, e.1) in
-    fault_exit c.from_residual-in_err-read_digital.result (λ _. Unit {0}) (FaultOf selected c.args.before digital all) f c.from_residual-in_err-read_digital.ensures.1
+    err_exit c.from_residual-in_err-read_digital.result (λ _. Unit {0}) (FaultOf selected c.args.before digital all) f c.from_residual-in_err-read_digital.ensures.1
     (2 + length selected + e.0, place, fault_in_digital selected c.args.before digital all e.0 f.kind front (subst (λ (x : List (List ℕ)). IsFirstOut (λ j. Digital) digital x e.0 f.kind) rest e.2))
 
 pub returns-clause-row : goal.returns-clause-row

@@ -1,4 +1,4 @@
-use Rattle.std.proofs.Common.{◌≡◌, ℕ, List, [], ◌∷◌, get_or, drop, refl, sym, ap, subst, arith}
+use Rattle.std.proofs.Common.{◌≡◌, ℕ, List, [], get_or, drop, refl, subst, arith}
 use Rattle.flk_dat.specs.SampleFields.{Number, Stamp, IsIn, Refuses}
 use Rattle.flk_dat.specs.Heads.{head_column}
 use Rattle.flk_dat.proofs.RowLemmas.{field_taken, fields_left_then, number_in}

@@ -1,4 +1,4 @@
-use Rattle.std.proofs.Common.{◌≡◌, ◌+◌, ◌++◌, take, vec_len, length}
+use Rattle.std.proofs.Common.{◌≡◌, ◌+◌, ◌++◌, take, vec_len}
 use Rattle.std.specs.Prelude.{vec_capacity}
 use Rattle.flk_dat.proofs.push_binary.push_value.Given as goal
 

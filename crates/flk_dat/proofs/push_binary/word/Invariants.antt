@@ -1,4 +1,4 @@
-use Rattle.std.proofs.Common.{◌≡◌, ◌+◌, ◌-◌, ◌<◌, ◌≤◌, ◌^◌, take, drop}
+use Rattle.std.proofs.Common.{◌≡◌, ◌-◌, ◌<◌, ◌≤◌, ◌^◌, take, drop}
 use Rattle.flk_dat.specs.Records.{record_at}
 use Rattle.flk_dat.specs.Written.{bits_number}
 use Rattle.flk_dat.proofs.push_binary.word.Given as goal

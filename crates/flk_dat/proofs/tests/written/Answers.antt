@@ -1,10 +1,11 @@
-use Rattle.std.proofs.Common.{◌≡◌, ◌<◌, ◌≤◌, ◌^◌, ℕ, ℤ, pos, negsuc, ◌≤ℤ◌, List, [], ◌∷◌, ◌++◌, Some, zero, suc, length, arith, refl, sym, ap, subst, ◌∙◌, rules}
+use Rattle.std.proofs.Common.{◌≡◌, ◌<◌, ◌≤◌, ◌^◌, ℕ, ℤ, pos, negsuc, ◌≤ℤ◌, List, [], ◌∷◌, ◌++◌, Some, zero, suc, arith, refl, sym, ap, subst, ◌∙◌, rules}
 use Rattle.std.specs.Prelude.{FitsSigned, All}
 use Rattle.std.specs.Int.{w32}
-use Rattle.std.proofs.lemmas.Int.{ints, to_z-of_z}
+use Rattle.std.proofs.lemmas.Int.{ints}
 use Rattle.flk_cfg.specs.declared.config.Form.{Form}
 use Rattle.flk_cfg.specs.declared.config.Form.TheVariants.{Ascii, Binary}
 use Rattle.flk_dat.specs.Records.{DataRecord, Rows, record_at}
+use Rattle.flk_dat.specs.SampleFields.{IsSampleValue}
 use Rattle.flk_dat.specs.Written.{IsWritable}
 use Rattle.flk_dat.proofs.tests.written.Goals as goal
 
@@ -17,8 +18,8 @@ one P z h (suc k) d lt = absurd (omega (arith, lt))
 
 writable : (form : Form) (stamp : ℕ) (value : ℤ) → stamp < 2 ^ 32 → (negsuc 32767 ≤ℤ value) × (value ≤ℤ pos 32767) → IsWritable form (the_record stamp value)
 writable Ascii stamp value few range =
-    let wide : (negsuc 99998 ≤ℤ value) × (value ≤ℤ pos 99999) = (omega (arith, ints, range.0), omega (arith, ints, range.1)) in
-    record { number = omega arith; stamp = omega (arith, few); analog = one (λ z. (negsuc 99998 ≤ℤ z) × (z ≤ℤ pos 99999)) value wide }
+    let wide : IsSampleValue value = (omega (arith, ints, range.0), omega (arith, ints, range.1)) in
+    record { number = omega arith; stamp = omega (arith, few); analog = one IsSampleValue value wide }
 writable Binary stamp value few range = record { number = omega arith; stamp = few; analog = one (λ z. (negsuc 32767 ≤ℤ z) × (z ≤ℤ pos 32767)) value range }
 
 pub write_record-requires-clause-sets : goal.write_record-requires-clause-sets

@@ -1,12 +1,8 @@
-use Rattle.std.proofs.Common.{◌≡◌, ◌≢◌, ◌+◌, ◌-◌, ◌*◌, ◌<◌, ◌≤◌, ◌^◌, ℕ, ℤ, List, [], ◌∷◌, ◌++◌, length, get_or, set, take, drop, pos, false, Bool, Option, None, refl, sym, ap, subst, ◌∙◌, arith, rules, vec_len, Fits, w64}
+use Rattle.std.proofs.Common.{◌≡◌, ◌+◌, ◌*◌, ◌<◌, ◌^◌, List, length, get_or, take, drop, false, refl, sym, ap, ◌∙◌, arith, rules}
 use Rattle.std.proofs.lemmas.List.{get_or-take, get_or-drop, get_or_read_under}
-use Rattle.std.proofs.lemmas.Int.{to_z-of_z}
-use Rattle.std.specs.Prelude.{FitsSigned}
-use Rattle.std.specs.Int.{w32}
-use Rattle.std.proofs.lemmas.Grind.{common_steps}
-use Rattle.flk_dat.specs.Records.{DataRecord, Rows, record_at, HasWidth}
+use Rattle.flk_dat.specs.Records.{DataRecord, Rows, record_at}
 use Rattle.flk_dat.specs.Blocks.{Columns, row_of, rows_of}
-use Rattle.flk_dat.proofs.BlockLemmas.{rows_count, rows_at, no_rows, row_length, row_room, Put, rows_put, laid_put}
+use Rattle.flk_dat.proofs.BlockLemmas.{rows_count, rows_at, row_room}
 use Rattle.flk_dat.proofs.block.Block.digital.Goals as goal
 
 pub overflow_mul-self-inside : goal.overflow_mul-self-inside

@@ -1,9 +1,7 @@
-use Rattle.std.proofs.Common.{◌≡◌, ◌≢◌, ◌+◌, ◌-◌, ◌*◌, ◌<◌, ◌≤◌, ◌^◌, ℕ, ℤ, List, [], ◌∷◌, ◌++◌, length, get_or, set, take, drop, pos, false, Bool, Option, None, refl, sym, ap, subst, ◌∙◌, arith, rules, vec_len, Fits, w64}
-use Rattle.std.proofs.lemmas.List.{get_or-take, get_or-drop}
-use Rattle.std.proofs.lemmas.Grind.{common_steps}
-use Rattle.flk_dat.specs.Records.{DataRecord, Rows, record_at, HasWidth}
-use Rattle.flk_dat.specs.Blocks.{Columns, row_of, rows_of}
-use Rattle.flk_dat.proofs.BlockLemmas.{rows_count, rows_at, no_rows, row_length, row_room, Put, rows_put, laid_put}
+use Rattle.std.proofs.Common.{◌≡◌, length, sym, ap, ◌∙◌, arith}
+use Rattle.flk_dat.specs.Records.{Rows}
+use Rattle.flk_dat.specs.Blocks.{Columns}
+use Rattle.flk_dat.proofs.BlockLemmas.{rows_count}
 use Rattle.flk_dat.proofs.block.Block.room.Goals as goal
 
 pub returns-clause-within : goal.returns-clause-within

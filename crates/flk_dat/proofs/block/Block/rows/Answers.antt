@@ -1,10 +1,8 @@
-use Rattle.std.proofs.Common.{◌≡◌, ◌≢◌, ◌+◌, ◌-◌, ◌*◌, ◌<◌, ◌≤◌, ◌^◌, ℕ, ℤ, List, [], ◌∷◌, ◌++◌, length, get_or, set, take, drop, pos, false, Bool, Option, None, refl, sym, ap, subst, ◌∙◌, arith, rules, vec_len, Fits, w64}
+use Rattle.std.proofs.Common.{◌≡◌, ℕ, List, length, sym, ap, subst, ◌∙◌, arith}
 use Rattle.std.specs.Prelude.{All}
-use Rattle.std.proofs.lemmas.List.{get_or-take, get_or-drop}
-use Rattle.std.proofs.lemmas.Grind.{common_steps}
-use Rattle.flk_dat.specs.Records.{DataRecord, Rows, record_at, HasWidth}
-use Rattle.flk_dat.specs.Blocks.{Columns, row_of, rows_of}
-use Rattle.flk_dat.proofs.BlockLemmas.{rows_count, rows_at, no_rows, row_length, row_room, Put, rows_put, laid_put, rows_width}
+use Rattle.flk_dat.specs.Records.{DataRecord, Rows, HasWidth}
+use Rattle.flk_dat.specs.Blocks.{Columns, rows_of}
+use Rattle.flk_dat.proofs.BlockLemmas.{rows_count, rows_width}
 use Rattle.flk_dat.proofs.block.Block.rows.Goals as goal
 
 pub returns-clause-rows : goal.returns-clause-rows

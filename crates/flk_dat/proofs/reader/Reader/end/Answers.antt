@@ -1,4 +1,4 @@
-use Rattle.std.proofs.Common.{◌≡◌, ◌<◌, refl, arith}
+use Rattle.std.proofs.Common.{◌<◌, refl, arith}
 use Rattle.flk_dat.specs.States.{layout}
 use Rattle.flk_dat.specs.declared.kind.Kind.TheVariants as kinds
 use Rattle.flk_dat.specs.declared.kind.Fault.{Fault}

@@ -1,4 +1,4 @@
-use Rattle.std.proofs.Common.{◌≡◌, ◌+◌, ◌++◌, List, ℕ, sym, ap, subst, ◌∙◌}
+use Rattle.std.proofs.Common.{◌+◌, ◌++◌, ℕ, sym, ap, subst, ◌∙◌}
 use Rattle.flk_dat.specs.DataFile.{IsFaultAfter}
 use Rattle.flk_dat.specs.Streams.{added}
 use Rattle.flk_dat.specs.States.{layout}
@@ -7,7 +7,7 @@ use Rattle.flk_dat.proofs.reader.Reader.feed.Goals as goal
 
 pub returns-in-Err-clause-fault : goal.returns-in-Err-clause-fault
 returns-in-Err-clause-fault c = λ taken given s.
-    let e = c.in-Err.ensures in
+    let e = c.in-Err.ensures.taken in
     record {
       row = ap (λ (f : FaultView). f.row) c.fail.ensures.is ∙ ap (λ (n : ℕ). n + 1) (e.count taken given s);
       kind = c.in-Err.fault.kind;

@@ -1,4 +1,4 @@
-use Rattle.std.proofs.Common.{◌≡◌, ◌+◌, ◌++◌, ℕ, sym, ap, subst, ◌∙◌}
+use Rattle.std.proofs.Common.{◌+◌, ◌++◌, ℕ, sym, ap, subst, ◌∙◌}
 use Rattle.flk_dat.specs.DataFile.{IsFaultAfter}
 use Rattle.flk_dat.specs.Streams.{added}
 use Rattle.flk_dat.specs.States.{layout}
