@@ -1,0 +1,7 @@
+pub mod SectionLemmas
+pub mod RangeLemmas
+pub mod RadiusLemmas
+pub mod CascadeLemmas
+pub mod RowLemmas
+pub mod WidthLemmas
+pub mod ReachedLemmas

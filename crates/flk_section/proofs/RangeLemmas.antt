@@ -1,0 +1,119 @@
+-- How large the states of a section get, from what its gain promises: the exact run at rest is known, and each state is seen in an output.
+use Rattle.std.proofs.Common.{◌≡◌, ◌+◌, ◌*◌, ◌^◌, ◌<◌, ◌≤◌, Bool, true, false, List, [], ◌∷◌, refl, sym, ap, subst, arith}
+use Rattle.std.proofs.Math.IntN.{ℤ, pos, neg_ℤ, ◌+ℤ◌, ◌-ℤ◌, ◌*ℤ◌}
+use Rattle.std.proofs.Math.Logic.{∥∥₁_elim, ∥∥₁_map}
+use Rattle.std.proofs.Math.Nat.{mul-le-mul_right}
+use Rattle.std.specs.Coded.{le_prop}
+use Rattle.std.specs.Prelude.{negsuc, ◌≤ℤ◌, ◌<ℤ◌, if◌then◌else◌}
+use Rattle.std.specs.Int.RustNames.{unsigned_abs}
+use Rattle.std.specs.Int.Signed.{shr_z}
+use Rattle.std.specs.List.{All}
+use Rattle.std.proofs.lemmas.Int.{ints, unsigned_abs-mul}
+use Rattle.std.proofs.lemmas.List.Elements.{All-nil, All-cons, All-head, All-tail}
+use Rattle.flk_exact.specs.Rounding.{floor_of, ceil_of}
+use Rattle.flk_exact.proofs.RoundingLemmas.{IsCeil-at}
+use Rattle.flk_cert.specs.declared.coefs.Coefs.{Coefs}
+use Rattle.flk_cert.specs.declared.gain.Gain.{Gain}
+use Rattle.flk_cert.specs.Gain.{coefs_of, input_of}
+use Rattle.flk_cert.specs.RoundedSection.{product, State, state, start, output, outputs, after}
+use Rattle.flk_cert.specs.Bound.{MayStart}
+use Rattle.flk_cert.proofs.RunLemmas.{lost_of, product_rounded}
+use Rattle.flk_cert.proofs.GainLemmas.{gain_rounding_small}
+use Rattle.flk_section.specs.Radius.{radius_after}
+use Rattle.flk_section.specs.Kept.{rest, IsNearRest, IsReached}
+use Rattle.flk_section.proofs.SectionLemmas.{outputs_near_rest}
+
+-- a rounded product by a coefficient
+pub product_small : (k v : ℤ) → unsigned_abs k ≤ 2 ^ 33 → unsigned_abs (product k v) ≤ 2 * unsigned_abs v + 1
+product_small k v h =
+    let b = product_rounded k v in
+    let same : k *ℤ v ≡ pos (2 ^ 32) *ℤ product k v +ℤ pos (lost_of k v) = b.same in
+    let less : lost_of k v < 2 ^ 32 = b.less in
+    let size : unsigned_abs (k *ℤ v) ≡ unsigned_abs k * unsigned_abs v = unsigned_abs-mul k v in
+    let most : unsigned_abs k * unsigned_abs v ≤ 2 ^ 33 * unsigned_abs v = mul-le-mul_right (unsigned_abs v) h in
+    omega (arith, ints, same, less, size, most)
+
+-- a shift rounds down
+pub shift_is : (z : ℤ) → shr_z z (2 ^ 32) ≡ floor_of z (pos (2 ^ 32))
+shift_is (pos n) = refl
+shift_is (negsuc n) = refl
+
+-- how far inputs below 2^60 lie from rest
+abbrev wide : ℤ
+wide = pos (2 ^ 60 + 2 ^ 48)
+
+wide_near : (from_one : Bool) (X : ℤ) → unsigned_abs X < 2 ^ 60 → IsNearRest from_one wide X
+wide_near true X h = record { near = omega (arith, ints) }
+wide_near false X h = record { near = omega (arith, ints) }
+
+rest_near : (from_one : Bool) → IsNearRest from_one wide (rest from_one)
+rest_near true = record { near = omega (arith, ints) }
+rest_near false = record { near = omega (arith, ints) }
+
+rest_small : (from_one : Bool) → unsigned_abs (rest from_one) ≤ 2 ^ 48
+rest_small true = omega arith
+rest_small false = omega arith
+
+-- the input is below 2^60 in size
+abbrev IsSmall : ℤ → Type 0
+IsSmall X = unsigned_abs X < 2 ^ 60
+
+all_wide : (from_one : Bool) (Xs : List ℤ) → All (λ X. unsigned_abs X < 2 ^ 60) Xs → All (IsNearRest from_one wide) Xs
+all_wide from_one [] h = All-nil (IsNearRest from_one wide)
+all_wide from_one (X ∷ Xs) h =
+    All-cons (IsNearRest from_one wide) X Xs (wide_near from_one X (All-head IsSmall X Xs h)) (all_wide from_one Xs (All-tail IsSmall X Xs h))
+
+radius_wide : (g : Gain) → input_of g <ℤ pos (2 ^ 36) → radius_after g wide ≤ℤ pos (2 ^ 65)
+radius_wide g h =
+    let c : ℤ = ceil_of (wide *ℤ input_of g) (pos (2 ^ 32)) in
+    let least : (c *ℤ pos (2 ^ 32) -ℤ pos (2 ^ 32)) <ℤ (wide *ℤ input_of g) = (IsCeil-at (wide *ℤ input_of g) (pos (2 ^ 32)) c (omega (arith, ints)) refl).least in
+    omega (arith, ints, least, h, gain_rounding_small g)
+
+-- the first state is the output for the input at rest, but for one product
+first_reached : (g : Gain) (from_one : Bool) (Xs : List ℤ) → MayStart (coefs_of g) from_one → input_of g <ℤ pos (2 ^ 36) → All (λ X. unsigned_abs X < 2 ^ 60) Xs
+    → unsigned_abs (state (coefs_of g) from_one Xs).s1 ≤ 2 ^ 66
+first_reached g from_one Xs may input small =
+    let k : Coefs = coefs_of g in
+    let near = outputs_near_rest g from_one wide (rest from_one ∷ Xs) may (omega (arith, ints)) (All-cons (IsNearRest from_one wide) (rest from_one) Xs (rest_near from_one) (all_wide from_one Xs small)) in
+    let out = (All-head (IsNearRest false (radius_after g wide)) (output k (state k from_one Xs) (rest from_one)) (outputs k from_one Xs) near).near in
+    let p = product_small k.b0 (rest from_one) k.b0_small in
+    omega (arith, ints, out, p, rest_small from_one, radius_wide g input)
+
+second_reached : (g : Gain) (from_one : Bool) (Xs : List ℤ) → MayStart (coefs_of g) from_one → input_of g <ℤ pos (2 ^ 36) → All (λ X. unsigned_abs X < 2 ^ 60) Xs
+    → unsigned_abs (state (coefs_of g) from_one Xs).s2 ≤ 2 ^ 68
+second_reached g true [] may input small = omega arith
+second_reached g false [] may input small = omega arith
+second_reached g from_one (X ∷ Xs) may input small =
+    let k : Coefs = coefs_of g in
+    let near = outputs_near_rest g from_one wide (X ∷ Xs) may (omega (arith, ints)) (all_wide from_one (X ∷ Xs) small) in
+    let Y : ℤ = output k (state k from_one Xs) X in
+    let out = (All-head (IsNearRest false (radius_after g wide)) Y (outputs k from_one Xs) near).near in
+    let p : unsigned_abs (product k.b2 X) ≤ 2 * unsigned_abs X + 1 = product_small k.b2 X k.b2_small in
+    let q : unsigned_abs (product k.a2 Y) ≤ 2 * unsigned_abs Y + 1 = product_small k.a2 Y k.a2_small in
+    let x : unsigned_abs X < 2 ^ 60 = All-head IsSmall X Xs small in
+    let y : unsigned_abs Y ≤ 2 ^ 65 = omega (arith, ints, out, radius_wide g input) in
+    omega (arith, ints, p, q, x, y)
+
+-- ---- of the state that the code holds
+
+pub first_small : (g : Gain) (from_one : Bool) (s : State) → MayStart (coefs_of g) from_one → input_of g <ℤ pos (2 ^ 36) → ∥ IsReached (coefs_of g) from_one s ∥₁ → unsigned_abs s.s1 ≤ 2 ^ 66
+first_small g from_one s may input r =
+    ∥∥₁_elim r le_prop (λ (t : IsReached (coefs_of g) from_one s). subst (λ (z : State). unsigned_abs z.s1 ≤ 2 ^ 66) t.is (first_reached g from_one t.inputs may input t.small))
+
+pub second_small : (g : Gain) (from_one : Bool) (s : State) → MayStart (coefs_of g) from_one → input_of g <ℤ pos (2 ^ 36) → ∥ IsReached (coefs_of g) from_one s ∥₁ → unsigned_abs s.s2 ≤ 2 ^ 68
+second_small g from_one s may input r =
+    ∥∥₁_elim r le_prop (λ (t : IsReached (coefs_of g) from_one s). subst (λ (z : State). unsigned_abs z.s2 ≤ 2 ^ 68) t.is (second_reached g from_one t.inputs may input t.small))
+
+pub reached_after : (k : Coefs) (from_one : Bool) (s : State) (X : ℤ) → unsigned_abs X < 2 ^ 60 → ∥ IsReached k from_one s ∥₁ → ∥ IsReached k from_one (after k s X) ∥₁
+reached_after k from_one s X small r =
+    ∥∥₁_map r (λ (t : IsReached k from_one s). let made : IsReached k from_one (after k s X) = record { inputs = X ∷ t.inputs; small = All-cons IsSmall X t.inputs small t.small; is = ap (λ (z : State). after k z X) t.is } in made)
+
+-- ---- what the code makes
+
+pub start_is : (k : Coefs) (from_one : Bool) (z : ℤ) → z ≡ (if from_one then neg_ℤ (pos 65536 *ℤ k.b0) else pos 0) → start k from_one ≡ record { s1 = z; s2 = pos 0 }
+start_is k true z e = let made : ℤ → State = λ y. record { s1 = y; s2 = pos 0 } in ap made (sym e)
+start_is k false z e = let made : ℤ → State = λ y. record { s1 = y; s2 = pos 0 } in ap made (sym e)
+
+pub after_is : (k : Coefs) (s : State) (X Y p q : ℤ) → Y ≡ output k s X → p ≡ product k.b1 X -ℤ product k.a1 Y → q ≡ product k.b2 X -ℤ product k.a2 Y
+    → record { s1 = p +ℤ s.s2; s2 = q } ≡ after k s X
+after_is k s X Y p q e f g = rw (f, g, e) refl
