@@ -1,5 +1,5 @@
 -- From the records of the data to what is due for them.
-use Rattle.std.proofs.Common.{◌≡◌, ◌≢◌, ℕ, ◌+◌, ◌-◌, List, [], ◌∷◌, length, map, pos, Option, Some, None, Result, Ok, Err, IfSome, IfOk, refl, ap, ◌∙◌, subst, string_bytes, arith}
+use Rattle.std.proofs.Common.{◌≡◌, ◌≢◌, ℕ, ◌+◌, ◌-◌, List, [], ◌∷◌, length, map, pos, Option, Some, None, Result, Ok, Err, IfSome, IfOk, refl, ap, ◌∙◌, subst, string_bytes}
 use Rattle.std.specs.Prelude.{slice_index_or}
 use Rattle.flk_exact.specs.Fraction.{Fraction}
 use Rattle.flk_io.specs.Causes.{TakesAll}
@@ -20,6 +20,7 @@ use Rattle.flk_top.specs.Checking.{IsFirstNumber}
 use Rattle.flk_top.specs.Reading.{StopsAt}
 use Rattle.flk_top.specs.Text.{levels_text, check_text}
 use Rattle.flk_top.specs.Faults.{data_line, range_line}
+use Rattle.flk_top.specs.Status.{status_number}
 use Rattle.flk_top.specs.Answer.{IsDueForLevels, data_fault, over_range, measured, IsDueForCheck, file_fault, checked}
 use Rattle.flk_top.specs.declared.command.LevelsCommand.{LevelsCommand}
 use Rattle.flk_top.specs.declared.data.DataStop.TheVariants as stops
@@ -28,6 +29,7 @@ use Rattle.flk_top.specs.declared.matching.Matched.{Matched}
 use Rattle.flk_top.specs.declared.measure.Levels.{Levels}
 use Rattle.flk_top.specs.declared.measure.Measure.{Measure}
 use Rattle.flk_top.specs.declared.reply.Reply.{Reply}
+use Rattle.flk_top.specs.declared.reply.Status.TheVariants.{Refused, ReadFailed}
 use Rattle.flk_top.proofs.Replies.{whole_read}
 
 -- the state stands for the voltages of these records, or refuses one of them
@@ -105,22 +107,22 @@ fault_due command c a matched m f bytes s t rs matches made fault stands status 
 
 pub fault_told : {E : Type 0} (command : LevelsCommand) (c : Config) (matched : Matched) (before m : Measure) (left : Option (List ℕ)) (f : DatFault) (r : Result Reply E) → IsMadeFor m matched command.channel
     → IfSome left (λ bytes. StopsAt MeasureStands MeasureRefuses (layout_of c (command.channel ∷ [])) bytes before m (stops.Fault f))
-    → IfOk r (λ x. (x.status ≡ 2) × (string_bytes x.text ≡ data_line f.row f.field f.kind))
-    → IfOk r (λ x. x.status ≢ 4 → (bytes : List ℕ) → left ≡ Some bytes → (a : Analog) → IsMatched c command a matched
-    → IsDueForLevels command.channel command.supply.nominal_mv command.supply.uncertainty_uv c a matched.lamp bytes x.status (string_bytes x.text))
+    → IfOk r (λ x. (x.status ≡ Refused) × (string_bytes x.text ≡ data_line f.row f.field f.kind))
+    → IfOk r (λ x. x.status ≢ ReadFailed → (bytes : List ℕ) → left ≡ Some bytes → (a : Analog) → IsMatched c command a matched
+    → IsDueForLevels command.channel command.supply.nominal_mv command.supply.uncertainty_uv c a matched.lamp bytes (status_number x.status) (string_bytes x.text))
 fault_told command c matched before m left f (Ok x) made stop reply = λ fine bytes is a matches.
     let stopped = told left bytes (λ xs. StopsAt MeasureStands MeasureRefuses (layout_of c (command.channel ∷ [])) xs before m (stops.Fault f)) is stop in
-    fault_due command c a matched m f bytes x.status (string_bytes x.text) stopped.0 matches made stopped.1 stopped.2 reply.0 reply.1
+    fault_due command c a matched m f bytes (status_number x.status) (string_bytes x.text) stopped.0 matches made stopped.1 stopped.2 (ap status_number reply.0) reply.1
 fault_told command c matched before m left f (Err e) made stop reply = tt
 
 pub range_told : {E : Type 0} (command : LevelsCommand) (c : Config) (matched : Matched) (before m : Measure) (left : Option (List ℕ)) (i : ℕ) (r : Result Reply E) → IsMadeFor before matched command.channel
     → IfSome left (λ bytes. StopsAt MeasureStands MeasureRefuses (layout_of c (command.channel ∷ [])) bytes before m (stops.Refused i))
-    → IfOk r (λ x. (x.status ≡ 2) × (string_bytes x.text ≡ range_line (i + 1) command.channel))
-    → IfOk r (λ x. x.status ≢ 4 → (bytes : List ℕ) → left ≡ Some bytes → (a : Analog) → IsMatched c command a matched
-    → IsDueForLevels command.channel command.supply.nominal_mv command.supply.uncertainty_uv c a matched.lamp bytes x.status (string_bytes x.text))
+    → IfOk r (λ x. (x.status ≡ Refused) × (string_bytes x.text ≡ range_line (i + 1) command.channel))
+    → IfOk r (λ x. x.status ≢ ReadFailed → (bytes : List ℕ) → left ≡ Some bytes → (a : Analog) → IsMatched c command a matched
+    → IsDueForLevels command.channel command.supply.nominal_mv command.supply.uncertainty_uv c a matched.lamp bytes (status_number x.status) (string_bytes x.text))
 range_told command c matched before m left i (Ok x) made stop reply = λ fine bytes is a matches.
     let stopped = told left bytes (λ xs. StopsAt MeasureStands MeasureRefuses (layout_of c (command.channel ∷ [])) xs before m (stops.Refused i)) is stop in
-    over_range stopped.0 i stopped.1 stopped.2 (over_recorded before c command a matched stopped.0 i matches made stopped.3) reply.0 reply.1
+    over_range stopped.0 i stopped.1 stopped.2 (over_recorded before c command a matched stopped.0 i matches made stopped.3) (ap status_number reply.0) reply.1
 range_told command c matched before m left i (Err e) made stop reply = tt
 
 pub measured_told : (command : LevelsCommand) (c : Config) (matched : Matched) (m : Measure) (left after : Option (List ℕ)) (found : Levels) (s : ℕ) (t : List ℕ) → IsMadeFor m matched command.channel
@@ -137,10 +139,6 @@ measured_told command c matched m left after found s t made read are status text
 
 -- ---- the summary
 
-pub no_first : (rs : List DataRecord) → length rs ≡ 0 → 0 ≡ (record_at rs 0).number
-no_first [] h = refl
-no_first (r ∷ rs) h = absurd (omega (arith, h))
-
 -- the state stands for these records, of which none is refused
 abbrev pub FirstStands : FirstNumber → List DataRecord → Type 0
 FirstStands first rs = IsFirstNumber first.number rs
@@ -150,12 +148,12 @@ FirstRefuses first rs i = ⊥
 
 pub file_told : {E : Type 0} (c : Config) (before m : FirstNumber) (left : Option (List ℕ)) (f : DatFault) (r : Result Reply E)
     → IfSome left (λ bytes. StopsAt FirstStands FirstRefuses (layout_of c []) bytes before m (stops.Fault f))
-    → IfOk r (λ x. (x.status ≡ 2) × (string_bytes x.text ≡ data_line f.row f.field f.kind))
-    → IfOk r (λ x. x.status ≢ 4 → (bytes : List ℕ) → left ≡ Some bytes → IsDueForCheck c bytes x.status (string_bytes x.text))
+    → IfOk r (λ x. (x.status ≡ Refused) × (string_bytes x.text ≡ data_line f.row f.field f.kind))
+    → IfOk r (λ x. x.status ≢ ReadFailed → (bytes : List ℕ) → left ≡ Some bytes → IsDueForCheck c bytes (status_number x.status) (string_bytes x.text))
 file_told c before m left f (Ok x) stop reply = λ fine bytes is.
     let stopped = told left bytes (λ xs. StopsAt FirstStands FirstRefuses (layout_of c []) xs before m (stops.Fault f)) is stop in
     let fault = stopped.1 in
-    file_fault stopped.0 f.field fault.kind fault.here reply.0 (reply.1 ∙ data_line_is f.row (length stopped.0 + 1) f.field f.kind (kind_number fault.kind) fault.row fault.number)
+    file_fault stopped.0 f.field fault.kind fault.here (ap status_number reply.0) (reply.1 ∙ data_line_is f.row (length stopped.0 + 1) f.field f.kind (kind_number fault.kind) fault.row fault.number)
 file_told c before m left f (Err e) stop reply = tt
 
 pub checked_told : (c : Config) (m : FirstNumber) (left after : Option (List ℕ)) (n s : ℕ) (t : List ℕ)

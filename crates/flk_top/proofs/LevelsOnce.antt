@@ -1,16 +1,14 @@
 -- The levels of recorded voltages have one text, and the promise on every run speaks of some run.
-use Rattle.std.proofs.Common.{◌≡◌, ℕ, ◌*◌, ◌<◌, List, [], ◌∷◌, length, map, ℤ, pos, neg_ℤ, Option, Some, None, refl, sym, ap, ◌∙◌, subst, arith}
+use Rattle.std.proofs.Common.{◌≡◌, ℕ, ◌*◌, ◌<◌, List, [], ◌∷◌, length, map, ℤ, Option, Some, None, refl, sym, ap, ◌∙◌, subst, arith}
 use Rattle.std.specs.List.{AllZip}
 use Rattle.std.proofs.lemmas.Int.{ints}
 use Rattle.std.proofs.lemmas.List.{length-map}
 use Rattle.std.proofs.lemmas.List.Sums.{sum_by-cons}
 use Rattle.flk_exact.specs.Fraction.{Fraction}
-use Rattle.flk_exact.specs.Rounding.{IsCeil}
 use Rattle.flk_exact.specs.Run.{IsAdmittedRun, relative_to}
 use Rattle.flk_exact.specs.Cut.{half_periods}
 use Rattle.flk_exact.specs.HalfPeriod.{AreHalfPeriodValues}
 use Rattle.flk_exact.specs.Extreme.{IsLeast, IsGreatest}
-use Rattle.flk_exact.proofs.RoundingLemmas.{floor_unique, IsFloor-neg}
 use Rattle.flk_exact.proofs.ListLemmas.{AllZip-length, AllZip-joined}
 use Rattle.flk_exact.proofs.CutLemmas.{AllZip-half_periods, length-half_periods, cuts_unique}
 use Rattle.flk_exact.proofs.RunLemmas.{recorded_run_is_admitted}
@@ -19,6 +17,7 @@ use Rattle.flk_exact.proofs.ExtremeLemmas.{least_unique, greatest_unique, least_
 use Rattle.flk_num.specs.declared.interval.Interval.{Interval}
 use Rattle.flk_num.specs.Square.{least_size, greatest_size, least_squares, greatest_squares}
 use Rattle.flk_scale.specs.Voltage.{is_below_zero, IsVoltageInterval}
+use Rattle.flk_scale.proofs.VoltageLemmas.{voltage_same}
 use Rattle.flk_half.specs.Cutter.{IsValueAt, IsHalfPeriodInterval}
 use Rattle.flk_top.specs.Levels.{IsExtremeInterval, AreExtremes, AreExtremesIfAny, AreLevels}
 use Rattle.flk_top.specs.Text.{extremes_text, levels_text}
@@ -30,15 +29,6 @@ use Rattle.flk_top.specs.declared.measure.Extremes.{Extremes}
 -- two intervals have the same ends
 abbrev pub SameEnds : Interval → Interval → Type 0
 SameEnds v w = (v.lo ≡ w.lo) × (v.hi ≡ w.hi)
-
-ceil_unique : (a : ℤ) (b : ℕ) (p q : ℤ) → IsCeil a (pos b) p → IsCeil a (pos b) q → p ≡ q
-ceil_unique a b p q h k =
-    omega (arith, ints, floor_unique (neg_ℤ a) b (neg_ℤ p) (neg_ℤ q) (IsFloor-neg a b p h) (IsFloor-neg a b q k))
-
--- a recorded voltage has one interval
-voltage_same : (nominal uncertainty : ℕ) (x : Fraction) (v w : Interval) → IsVoltageInterval nominal uncertainty x v → IsVoltageInterval nominal uncertainty x w → SameEnds v w
-voltage_same nominal uncertainty x v w h k =
-    (floor_unique _ (1000 * nominal * x.den) v.lo w.lo h.down k.down, ceil_unique _ (1000 * nominal * x.den) v.hi w.hi h.up k.up)
 
 voltages_same : (nominal uncertainty : ℕ) (recorded : List Fraction) (vs ws : List Interval) → AllZip (IsVoltageInterval nominal uncertainty) recorded vs → AllZip (IsVoltageInterval nominal uncertainty) recorded ws → AllZip SameEnds vs ws
 voltages_same nominal uncertainty recorded vs ws h k =

@@ -11,3 +11,6 @@ mod Replies
 mod DataReplies
 mod Headline
 mod OneAnswerLemmas
+mod LevelsExist
+mod WordCases
+mod AnswerExists

@@ -111,7 +111,7 @@ pub measured_more : (old new : Measure) (recorded : List Fraction) (x : Fraction
 measured_more old new recorded x v None h matched taken gains fine is continues ends = measured_continues old new recorded x v h matched taken gains fine is continues
 measured_more old new recorded x v (Some value) h matched taken gains fine is continues ends = measured_ends old new recorded x v value h matched taken gains fine is ends
 
-half_some : (lamp : Lamp) → 0 < half_of lamp
+pub half_some : (lamp : Lamp) → 0 < half_of lamp
 half_some L230 = omega arith
 half_some L120 = omega arith
 

@@ -1,10 +1,10 @@
 -- What a piece of data does to a reading.
-use Rattle.std.proofs.Common.{◌≡◌, ℕ, ◌+◌, ◌-◌, ◌^◌, ◌<◌, ◌≤◌, List, [], ◌++◌, length, take, drop, Option, Some, None, Result, Ok, Err, IfSome, IfErr, OnOk, sym, ap, ◌∙◌, subst, arith, append_assoc, length-append}
+use Rattle.std.proofs.Common.{◌≡◌, ℕ, ◌+◌, ◌-◌, ◌^◌, ◌<◌, ◌≤◌, List, [], ◌++◌, length, take, drop, Option, Some, None, Result, Ok, Err, IfSome, IfErr, OnOk, refl, sym, ap, ◌∙◌, subst, arith, append_assoc, length-append}
 use Rattle.std.specs.Io.KnownBytes.{Consumes, IsAtEnd}
-use Rattle.std.proofs.lemmas.List.{take-append-drop, take_all, take_rest, append-nil}
+use Rattle.std.proofs.lemmas.List.{take-append-drop, take_all, take_rest}
 use Rattle.flk_io.specs.Causes.{TakesAll}
 use Rattle.flk_io.proofs.Pieces.{take_next, Consumes-end}
-use Rattle.std.proofs.KnownBytes.{Consumes-nil}
+use Rattle.std.proofs.KnownBytes.{Consumes-nil, Consumes-whole}
 use Rattle.std.proofs.lemmas.List.FromFn.{length-map-range_with_len}
 use Rattle.flk_cfg.specs.declared.config.Config.{Config}
 use Rattle.flk_dat.specs.Records.{DataRecord, Rows, Layout, layout_of, is_among, IsBlockFor, ArePresent}
@@ -13,7 +13,8 @@ use Rattle.flk_dat.specs.Streams.{HasFault, EndsInFault, added, Grows}
 use Rattle.flk_dat.specs.States.{layout, Stands, Fits}
 use Rattle.flk_dat.specs.declared.reader.Reader.{Reader}
 use Rattle.flk_dat.specs.declared.kind.DatFault.{DatFault}
-use Rattle.flk_top.specs.Reading.{HasRead, StopsAt, IsStop, IsSameBlock}
+use Rattle.flk_dat.proofs.TakenBytes.{taken_length}
+use Rattle.flk_top.specs.Reading.{HasRead, StopsAt, IsStop, RefusesRecords, IsSameBlock}
 use Rattle.flk_top.specs.declared.data.DataStop.{DataStop}
 use Rattle.flk_top.specs.declared.data.DataStop.TheVariants as stops
 
@@ -242,17 +243,15 @@ analog_columns c selected r b same fits = fits.analog ∙ ap (λ (l : Layout). l
 
 -- nothing is read yet
 pub nothing_read : {T : Type 0} (stands : T → List DataRecord → Type 0) (reader : Reader) (block : Rows) (taker : T) (left : Option (List ℕ)) → Stands reader [] [] → block.records ≡ [] → stands taker []
-    → (bytes : List ℕ) × (past : List DataRecord) × HasRead stands reader block taker bytes past × Consumes left left bytes
+    → (bytes : List ℕ) × (past : List DataRecord) × HasRead stands reader block taker bytes past × Consumes left left bytes × (0 ≡ length bytes)
 nothing_read stands reader block taker left h empty none =
-    ([], [], record { reader_stands = subst (Stands reader []) (sym empty) h; taker_stands = none }, Consumes-nil left)
+    ([], [], record { reader_stands = subst (Stands reader []) (sym empty) h; taker_stands = none }, Consumes-nil left, refl)
 
--- bytes that were read to the end of a name are what it held
-told_whole : (old new : Option (List ℕ)) (bytes : List ℕ) (P : List ℕ → Type 0) → Consumes old new bytes → IsAtEnd new → P bytes → IfSome old P
-told_whole None new bytes P took end h = tt
-told_whole (Some xs) None bytes P took end h = absurd took
-told_whole (Some xs) (Some ys) bytes P took end h =
-    let all : xs ≡ bytes ++ [] = rw end at took in
-    subst P (sym (all ∙ append-nil bytes)) h
+-- what is read without a fault is bounded by the configuration's records
+pub read_length : {T : Type 0} (stands : T → List DataRecord → Type 0) (c : Config) (selected : List ℕ) (reader : Reader) (block : Rows) (taker : T) (bytes : List ℕ) (past : List DataRecord)
+    → c.endsamp ≤ 4294967295 → layout reader ≡ layout_of c selected → HasRead stands reader block taker bytes past → length bytes < 2 ^ 47
+read_length stands c selected reader block taker bytes past most same h =
+    omega (arith, taken_length reader bytes (past ++ block.records) h.reader_stands, ap (λ (l : Layout). l.records) same, most)
 
 -- bytes that were read are the front of what it held
 told_front : (old new : Option (List ℕ)) (bytes : List ℕ) (P : List ℕ → Type 0) → Consumes old new bytes → ((more : List ℕ) → P (bytes ++ more)) → IfSome old P
@@ -264,10 +263,10 @@ pub stop_at_end : {T : Type 0} (stands : T → List DataRecord → Type 0) (refu
     → l ≡ k → ((rs : List DataRecord) (i : ℕ) → refuses now rs i → refuses before rs i) → Consumes old new bytes → IsAtEnd new
     → StopsAt stands refuses l bytes now after stop → IsStop stands refuses k old faults later before after stop
 stop_at_end stands refuses l k old new bytes faults later before now after (stops.Fault f) same was took end h =
-    told_whole old new bytes (λ xs. StopsAt stands refuses k xs before after (stops.Fault f)) took end
+    Consumes-whole old new bytes (λ xs. StopsAt stands refuses k xs before after (stops.Fault f)) took end
     (stops_before stands refuses k bytes before now after (stops.Fault f) was (subst (λ x. StopsAt stands refuses x bytes now after (stops.Fault f)) same h))
 stop_at_end stands refuses l k old new bytes faults later before now after (stops.Refused i) same was took end h =
-    told_whole old new bytes (λ xs. StopsAt stands refuses k xs before after (stops.Refused i)) took end
+    Consumes-whole old new bytes (λ xs. StopsAt stands refuses k xs before after (stops.Refused i)) took end
     (stops_before stands refuses k bytes before now after (stops.Refused i) was (subst (λ x. StopsAt stands refuses x bytes now after (stops.Refused i)) same h))
 stop_at_end stands refuses l k old new bytes faults later before now after stops.Failed same was took end h = absurd h
 stop_at_end stands refuses l k old new bytes faults later before now after stops.OutOfMemory same was took end h = absurd h
@@ -283,6 +282,14 @@ stop_on_the_way stands refuses l k old new bytes faults later before now after (
     (λ more. stops_before stands refuses k (bytes ++ more) before now after (stops.Refused i) was (subst (λ x. StopsAt stands refuses x (bytes ++ more) now after (stops.Refused i)) same (h more)))
 stop_on_the_way stands refuses l k old new bytes faults later before now after stops.Failed same was took h = absurd (h [])
 stop_on_the_way stands refuses l k old new bytes faults later before now after stops.OutOfMemory same was took h = absurd (h [])
+
+-- what stops at a record refuses it
+pub refuses_records : {T : Type 0} (stands : T → List DataRecord → Type 0) (refuses : T → List DataRecord → ℕ → Type 0) (l : Layout) (bytes : List ℕ) (before now after : T) (stop : DataStop)
+    → ((rs : List DataRecord) (i : ℕ) → refuses now rs i → refuses before rs i) → StopsAt stands refuses l bytes now after stop → RefusesRecords refuses before stop
+refuses_records stands refuses l bytes before now after (stops.Fault f) was h = tt
+refuses_records stands refuses l bytes before now after (stops.Refused i) was h = (h.0, was h.0 i h.3)
+refuses_records stands refuses l bytes before now after stops.Failed was h = tt
+refuses_records stands refuses l bytes before now after stops.OutOfMemory was h = tt
 
 -- the data were read to their end and accepted
 pub accepted_at_end : {T : Type 0} (stands : T → List DataRecord → Type 0) (l k : Layout) (old now new : Option (List ℕ)) (bytes buf : List ℕ) (n : ℕ) (after : T) → l ≡ k → Consumes old now bytes → n ≡ 0

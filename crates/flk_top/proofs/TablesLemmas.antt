@@ -15,10 +15,12 @@ use Rattle.flk_design.specs.Design.{IsDesign, interval_2400}
 use Rattle.flk_design.proofs.DesignLemmas.{design_unique}
 use Rattle.flk_top.specs.Command.{IsTables, lamp_word}
 use Rattle.flk_top.specs.declared.reply.Reply.{Reply}
+use Rattle.flk_top.specs.declared.reply.Status.TheVariants.{Refused}
+use Rattle.flk_top.specs.Status.{status_number}
 use Rattle.flk_top.specs.Tables.{section_line, gain_line, AreSectionLines, IsRefused, AreLines, IsFirstRefused, lamp_line, IsDueForTables, certified, refused}
 
 -- a section that has lines is not refused: one certificate is made for it
-not_refused : (i : ℕ) (k : Coefs) (text : List ℕ) → AreSectionLines i k text → ¬ IsRefused k
+pub not_refused : (i : ℕ) (k : Coefs) (text : List ℕ) → AreSectionLines i k text → ¬ IsRefused k
 not_refused i k text h other =
     let P : List CertRow → Type 0 = λ rows. Fits k rows in
     other.fails (subst P (IsMade-unique k h.rows other.rows h.certified.made other.made) h.certified.fits)
@@ -68,8 +70,8 @@ begun_refused sections i k text there is begun fails =
 
 -- the line of that section
 pub refused_reply : {E : Type 0} (lamp : Lamp) (sections : List Coefs) (i : ℕ) (r : Result Reply E) → IsDesign interval_2400 (constants_of lamp) sections → IsFirstRefused sections i
-    → IfOk r (λ x. (x.status ≡ 2) × (string_bytes x.text ≡ lamp_line (i + 1))) → IfOk r (λ x. IsDueForTables lamp x.status (string_bytes x.text))
-refused_reply lamp sections i (Ok x) is first h = refused sections i is first h.0 h.1
+    → IfOk r (λ x. (x.status ≡ Refused) × (string_bytes x.text ≡ lamp_line (i + 1))) → IfOk r (λ x. IsDueForTables lamp (status_number x.status) (string_bytes x.text))
+refused_reply lamp sections i (Ok x) is first h = refused sections i is first (ap status_number h.0) h.1
 refused_reply lamp sections i (Err e) is first h = tt
 
 -- ---- one answer

@@ -5,6 +5,7 @@ use Rattle.flk_text.specs.PlainText.{plain}
 use Rattle.flk_cfg.specs.File.{IsFirstFault}
 use Rattle.flk_cfg.specs.Kinds.{kind_number}
 use Rattle.flk_cfg.specs.declared.kind.Kind.{Kind}
+use Rattle.flk_cfg.specs.declared.kind.Kind.TheVariants.{Length}
 use Rattle.flk_top.specs.declared.matching.MatchFault.{MatchFault}
 use Rattle.flk_top.specs.declared.matching.MatchFault.TheVariants as faults
 
@@ -39,6 +40,6 @@ configuration_limit = 1048576
 
 -- The bytes are no configuration, and this is the line of their first fault. The premises of the two rows exclude each other.
 pub data IsConfigurationFault (bytes : List ℕ) (text : List ℕ) : Type 0 where
-  too_long : configuration_limit < length bytes → text ≡ configuration_line 0 0 8 → IsConfigurationFault bytes text
+  too_long : configuration_limit < length bytes → text ≡ configuration_line 0 0 (kind_number Length) → IsConfigurationFault bytes text
   first_fault : (line field : ℕ) (kind : Kind) → length bytes ≤ configuration_limit → IsFirstFault bytes line field kind
       → text ≡ configuration_line line field (kind_number kind) → IsConfigurationFault bytes text

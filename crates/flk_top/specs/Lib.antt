@@ -7,6 +7,7 @@ pub mod Checking
 pub mod Faults
 pub mod Text
 pub mod Tables
+pub mod Status
 pub mod Replies
 pub mod Answer
 pub mod Headline

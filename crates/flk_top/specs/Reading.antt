@@ -30,6 +30,13 @@ IsStop stands refuses l left faults later before after (stops.Refused i) = IfSom
 IsStop stands refuses l left faults later before after stops.Failed = Rose faults later
 IsStop stands refuses l left faults later before after stops.OutOfMemory = Unit {0}
 
+-- a record that is refused is refused of some records
+abbrev pub RefusesRecords : {T : Type 0} → (refuses : T → List DataRecord → ℕ → Type 0) → (before : T) → DataStop → Type 0
+RefusesRecords refuses before (stops.Fault f) = Unit {0}
+RefusesRecords refuses before (stops.Refused i) = (rs : List DataRecord) × refuses before rs i
+RefusesRecords refuses before stops.Failed = Unit {0}
+RefusesRecords refuses before stops.OutOfMemory = Unit {0}
+
 -- the block has columns and room for as many records as before
 pub record IsSameBlock (old new : Rows) : Type 0 where
   pub analog : new.analog ≡ old.analog

@@ -4,8 +4,7 @@ use Rattle.std.specs.Int.RustNames.{unsigned_abs}
 use Rattle.std.specs.Fmt.{decimal}
 use Rattle.flk_num.specs.declared.interval.Interval.{Interval}
 use Rattle.flk_cfg.specs.declared.config.Config.{Config}
-use Rattle.flk_cfg.specs.declared.config.Form.{Form}
-use Rattle.flk_cfg.specs.declared.config.Form.TheVariants.{Ascii, Binary}
+use Rattle.flk_cfg.specs.Canonical.{form_text}
 use Rattle.flk_top.specs.declared.measure.Levels.{Levels}
 use Rattle.flk_top.specs.declared.measure.Extremes.{Extremes}
 
@@ -29,10 +28,6 @@ extremes_text (Some e) = codes "least " ++ (interval_text e.least ++ (codes "\ng
 abbrev pub levels_text : ℕ → Levels → List ℕ
 levels_text channel levels =
     codes "levels channel " ++ (decimal channel ++ (codes "\nhalf-periods " ++ (decimal levels.count ++ (codes "\n" ++ extremes_text levels.extremes))))
-
-abbrev pub form_text : Form → List ℕ
-form_text Ascii = codes "ASCII"
-form_text Binary = codes "BINARY"
 
 -- (`first` is the sample number of the first record.)
 abbrev pub check_text : Config → (first : ℕ) → List ℕ

@@ -1,17 +1,18 @@
 //! A data file, read in pieces to its end.
 
 ghost use Rattle.std.specs.Prelude.{◌≡◌, ◌⊎◌, ℕ, ◌+◌, ◌^◌, ◌<◌, ◌≤◌, List, [], ◌++◌, length, take, IfOk, IfErr, OnOk, IsErrOf};
-ghost use Rattle.flk_io.specs.Causes.{AllStay, OthersStay, TakesAll};
+ghost use Rattle.flk_io.specs.Causes.{OthersStay, TakesAll};
 ghost use Rattle.flk_cfg.specs.Valid.{IsValid};
 ghost use Rattle.flk_dat.specs.Records.{DataRecord, layout_of};
 ghost use Rattle.flk_dat.specs.DataFile.{IsAccepted};
 ghost use Rattle.flk_dat.specs.States.{layout, Fits};
-ghost use Rattle.flk_top.specs.Reading.{HasRead, StopsAt, IsStop, IsSameBlock};
+ghost use Rattle.flk_top.specs.Replies.{OnlyReads};
+ghost use Rattle.flk_top.specs.Reading.{HasRead, StopsAt, IsStop, RefusesRecords, IsSameBlock};
 
 use flk_cfg::Config;
 use flk_dat::{Block, DatFault, Reader};
-use flk_io::Shelf;
-use std::alloc::{AllocError, Global};
+use flk_io::{OutOfMemory, Shelf};
+use std::alloc::Global;
 
 /// What takes the records of a data file, in the order of time.
 pub trait Taker {
@@ -54,13 +55,13 @@ pub enum DataStop {
     OutOfMemory,
 }
 
-impl From<AllocError> for DataStop {
+impl From<OutOfMemory> for DataStop {
     ghost use Rattle.std.specs.Prelude.{◌≡◌};
     ghost use Rattle.flk_top.specs.declared.data.DataStop.TheVariants as stops;
 
     ghost from_gives = { λ _ e. e ≡ stops.OutOfMemory };
 
-    fn from(_: AllocError) -> DataStop {
+    fn from(_: OutOfMemory) -> DataStop {
         DataStop::OutOfMemory
     }
 }
@@ -221,19 +222,19 @@ pub fn read_data<F: Shelf, T: Taker>(
     ensures accepted { OnOk result ((bytes : List ℕ) × (rs : List DataRecord) × TakesAll (F.left shelf.old name.now) (F.left shelf.new name.now) bytes
         × IsAccepted (layout_of config.now selected.now) bytes rs × T.stands taker.new rs) }
     ensures stop { IfErr result (IsStop T.stands T.refuses (layout_of config.now selected.now) (F.left shelf.old name.now) (F.read_faults shelf.old) (F.read_faults shelf.new) taker.old taker.new) }
+    ensures refused { IfErr result (RefusesRecords T.refuses taker.old) }
     ensures purpose { T.purpose taker.new ≡ T.purpose taker.old }
     ensures kept { IsErrOf result DataStop.Failed ⊎ (F.read_faults shelf.new ≡ F.read_faults shelf.old) }
-    ensures later { F.read_faults shelf.old ≤ F.read_faults shelf.new }
-    ensures append_faults { F.append_faults shelf.new ≡ F.append_faults shelf.old }
-    ensures added { AllStay (F.added shelf.old) (F.added shelf.new) }
+    ensures only_reads { OnlyReads (F.read_faults shelf.old) (F.read_faults shelf.new) (F.append_faults shelf.old) (F.append_faults shelf.new) (F.added shelf.old) (F.added shelf.new) }
     ensures others { OthersStay name.now (F.left shelf.old) (F.left shelf.new) }
 {
     let mut reader = Reader::new(alloc, config, selected)?;
     let rows = ROWS.min(config.endsamp as usize);
     let mut block = Block::new(alloc, config, rows)?;
     let mut piece = [0; PIECE];
-    // It ends before: each read takes a byte at least, and a file that is longer than its records can be has a fault.
-    for _ in 0..u64::MAX {
+    // The loop's measure: each read takes a byte at least, and bytes that have no fault are fewer than 2^47.
+    let mut taken: u64 = 0;
+    loop {
         let count = match shelf.read(name, &mut piece) {
             Ok(count) => count,
             Err(_) => return Err(DataStop::Failed),
@@ -242,9 +243,8 @@ pub fn read_data<F: Shelf, T: Taker>(
             return finish(&mut reader, &mut block, taker);
         }
         match feed(&mut reader, &mut block, taker, &piece[..count]) {
-            Ok(()) => {}
+            Ok(()) => taken += count as u64,
             Err(stop) => return Err(stop),
         }
     }
-    Err(DataStop::OutOfMemory)
 }

@@ -45,69 +45,106 @@ fn is_answered<R: Threads + Sync>(rt: &R, alloc: Global, case: &Case) -> Result<
     )
 }
 
+/// A command, its status and its text.
+type Row<'a> = (&'a str, u8, &'a str);
+
+// The command of the first row that is not answered so over these files.
+fn first_wrong<'a, R: Threads + Sync>(
+    rt: &R,
+    alloc: Global,
+    configuration: &str,
+    bytes: &[u8],
+    rows: &[Row<'a>],
+) -> Result<Option<&'a str>, OutOfMemory> {
+    for (line, status, text) in rows {
+        let case = Case {
+            line: *line,
+            configuration,
+            bytes,
+            status: *status,
+            text: *text,
+        };
+        if !is_answered(rt, alloc, &case)? {
+            return Ok(Some(*line));
+        }
+    }
+    Ok(None)
+}
+
 const SUMMARY: &str = "check\nanalog 1 digital 0\nrecords 4800\nfirst 1\nform BINARY\n";
 
-// Records of 10 bytes: the seventh has no value, the last one lacks a byte, or a byte follows it.
 #[test]
-fn binary_data(rt: HostRuntime) -> Result<(), Fail> {
+fn whole_data(rt: HostRuntime) -> Result<(), Fail> {
     let alloc = rt.alloc();
     let configuration = varied(alloc, "", "")?;
-    let whole = square_wave(alloc)?;
-    let mut missing = square_wave(alloc)?;
+    let bytes = square_wave(alloc)?;
+    let rows = [
+        ("levels C D 1 230000 1", 0, UNCERTAIN),
+        ("levels C D 2 230000 0", 2, "fault match 1 2 1\n"),
+        ("levels C D 1 50000 0", 2, "fault range 1 1\n"),
+        ("check C D", 0, SUMMARY),
+    ];
+    let wrong = first_wrong(&rt, alloc, configuration.as_str(), &bytes, &rows)?;
+    assert_eq!(rt; wrong, None);
+    Ok(())
+}
+
+// A channel of another unit, and another line frequency.
+#[test]
+fn channels_of_no_levels(rt: HostRuntime) -> Result<(), Fail> {
+    let alloc = rt.alloc();
+    let bytes = square_wave(alloc)?;
+    for (old, new, text) in [
+        (",V,", ",A,", "fault match 2 1 0\n"),
+        ("\r\n50\r\n", "\r\n55\r\n", "fault match 4 0 55\n"),
+    ] {
+        let configuration = varied(alloc, old, new)?;
+        let rows = [
+            ("levels C D 1 230000 0", 2, text),
+            ("check C D", 0, SUMMARY),
+        ];
+        let wrong = first_wrong(&rt, alloc, configuration.as_str(), &bytes, &rows)?;
+        assert_eq!(rt; wrong, None, "{text}");
+    }
+    Ok(())
+}
+
+// The seventh record of 10 bytes has no value.
+#[test]
+fn a_missing_value(rt: HostRuntime) -> Result<(), Fail> {
+    let alloc = rt.alloc();
+    let configuration = varied(alloc, "", "")?;
+    let mut bytes = square_wave(alloc)?;
     for (at, byte) in [(68, 0), (69, 0x80)] {
-        if let Some(place) = missing.get_mut(at) {
+        if let Some(place) = bytes.get_mut(at) {
             *place = byte;
         }
     }
+    let rows = [
+        ("levels C D 1 230000 0", 2, "fault data 7 3 7\n"),
+        ("levels C D 1 50000 0", 2, "fault range 1 1\n"),
+        ("check C D", 0, SUMMARY),
+    ];
+    let wrong = first_wrong(&rt, alloc, configuration.as_str(), &bytes, &rows)?;
+    assert_eq!(rt; wrong, None);
+    Ok(())
+}
+
+// The last record lacks a byte, or a byte follows it.
+#[test]
+fn data_of_another_length(rt: HostRuntime) -> Result<(), Fail> {
+    let alloc = rt.alloc();
+    let configuration = varied(alloc, "", "")?;
     let mut short = square_wave(alloc)?;
     let _ = short.pop();
+    let rows = [("levels C D 1 230000 0", 2, "fault data 4800 0 5\n")];
+    let wrong = first_wrong(&rt, alloc, configuration.as_str(), &short, &rows)?;
+    assert_eq!(rt; wrong, None);
     let mut long = square_wave(alloc)?;
     long.push(0x1a)?;
-    for (line, bytes, status, text) in [
-        ("levels C D 1 230000 1", whole.as_slice(), 0, UNCERTAIN),
-        (
-            "levels C D 2 230000 0",
-            whole.as_slice(),
-            2,
-            "fault match 1 2 1\n",
-        ),
-        (
-            "levels C D 1 50000 0",
-            whole.as_slice(),
-            2,
-            "fault range 1 1\n",
-        ),
-        ("check C D", whole.as_slice(), 0, SUMMARY),
-        (
-            "levels C D 1 230000 0",
-            missing.as_slice(),
-            2,
-            "fault data 7 3 7\n",
-        ),
-        (
-            "levels C D 1 50000 0",
-            missing.as_slice(),
-            2,
-            "fault range 1 1\n",
-        ),
-        ("check C D", missing.as_slice(), 0, SUMMARY),
-        (
-            "levels C D 1 230000 0",
-            short.as_slice(),
-            2,
-            "fault data 4800 0 5\n",
-        ),
-        ("check C D", long.as_slice(), 2, "fault data 4801 0 6\n"),
-    ] {
-        let case = Case {
-            line,
-            configuration: configuration.as_str(),
-            bytes,
-            status,
-            text,
-        };
-        assert!(rt; is_answered(&rt, alloc, &case)?, "{line}: {text}");
-    }
+    let rows = [("check C D", 2, "fault data 4801 0 6\n")];
+    let wrong = first_wrong(&rt, alloc, configuration.as_str(), &long, &rows)?;
+    assert_eq!(rt; wrong, None);
     Ok(())
 }
 
@@ -131,57 +168,45 @@ const OF_60_HERTZ: &str =
 
 const THREE: &str = "check\nanalog 1 digital 0\nrecords 3\nfirst 5\nform ASCII\n";
 
-// Lines of a number, no time stamp and a value: half a nominal period of 60 Hz has 20 of them.
+// 200 lines of a number, no time stamp and a value: half a nominal period of 60 Hz has 20 of them.
 #[test]
-fn ascii_data(rt: HostRuntime) -> Result<(), Fail> {
+fn ascii_wave(rt: HostRuntime) -> Result<(), Fail> {
     let alloc = rt.alloc();
+    let configuration = ascii(alloc, "200")?;
     let mut wave = String::new(alloc);
     for k in 0..200u32 {
         let value = if k / 20 % 2 == 0 { 23000 } else { -23000 };
         let number = k + 1;
         wave.push_str(format!(in alloc; "{number},,{value}\r\n")?.as_str())?;
     }
-    for (line, records, bytes, status, text) in [
+    let rows = [("levels C D 1 230000 0", 0, OF_60_HERTZ)];
+    let wrong = first_wrong(&rt, alloc, configuration.as_str(), wave.as_bytes(), &rows)?;
+    assert_eq!(rt; wrong, None);
+    Ok(())
+}
+
+#[test]
+fn ascii_lines(rt: HostRuntime) -> Result<(), Fail> {
+    let alloc = rt.alloc();
+    let configuration = ascii(alloc, "3")?;
+    for (lines, row) in [
+        ("5,,0\r\n6,,0\r\n7,,0", ("check C D", 0, THREE)),
+        ("5,,0\n6,,0\n7,,0\x1a\r\n", ("check C D", 0, THREE)),
         (
-            "levels C D 1 230000 0",
-            "200",
-            wave.as_str(),
-            0,
-            OF_60_HERTZ,
-        ),
-        ("check C D", "3", "5,,0\r\n6,,0\r\n7,,0", 0, THREE),
-        ("check C D", "3", "5,,0\n6,,0\n7,,0\x1a\r\n", 0, THREE),
-        (
-            "levels C D 1 230000 0",
-            "3",
             "5,,0\r\n6,,0\r\n8,,0\r\n",
-            2,
-            "fault data 3 1 4\n",
+            ("levels C D 1 230000 0", 2, "fault data 3 1 4\n"),
         ),
         (
-            "levels C D 1 230000 0",
-            "3",
             "5,,99999\n6,,92001\n",
-            2,
-            "fault data 1 3 7\n",
+            ("levels C D 1 230000 0", 2, "fault data 1 3 7\n"),
         ),
         (
-            "levels C D 1 230000 0",
-            "3",
             "5,,0\n6,,92001\nx\n",
-            2,
-            "fault range 2 1\n",
+            ("levels C D 1 230000 0", 2, "fault range 2 1\n"),
         ),
     ] {
-        let configuration = ascii(alloc, records)?;
-        let case = Case {
-            line,
-            configuration: configuration.as_str(),
-            bytes: bytes.as_bytes(),
-            status,
-            text,
-        };
-        assert!(rt; is_answered(&rt, alloc, &case)?, "{line}: {text}");
+        let wrong = first_wrong(&rt, alloc, configuration.as_str(), lines.as_bytes(), &[row])?;
+        assert_eq!(rt; wrong, None, "{lines}");
     }
     Ok(())
 }

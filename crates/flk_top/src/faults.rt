@@ -2,28 +2,47 @@
 
 ghost use Rattle.std.specs.Prelude.{◌≡◌, ◌+◌, IfOk, string_bytes};
 ghost use Rattle.flk_text.specs.PlainText.{plain};
-ghost use Rattle.flk_top.specs.Faults.{configuration_line, match_line, data_line, range_line};
+ghost use Rattle.flk_top.specs.Faults.{usage_line, read_line, configuration_line, match_line, data_line, range_line};
+ghost use Rattle.flk_top.specs.declared.reply.Status.TheVariants as statuses;
 
 use crate::matching::MatchFault;
-use crate::reply::Reply;
+use crate::reply::{Reply, Status, line};
 use flk_cfg::CfgFault;
 use flk_dat::DatFault;
+use flk_io::OutOfMemory;
 use flk_text::{DecimalValue, push_decimal};
-use std::alloc::{AllocError, Global};
+use std::alloc::Global;
+
+/// The reply to words that have no command's shape.
+pub fn usage_reply(alloc: Global) -> Result<Reply, OutOfMemory>
+    ensures { IfOk result (λ r. (r.status ≡ statuses.Refused) × (string_bytes r.text ≡ usage_line)) }
+{
+    line(alloc, Status::Refused, "fault usage\n")
+}
+
+/// The reply to a read that failed.
+pub fn read_reply(alloc: Global) -> Result<Reply, OutOfMemory>
+    ensures { IfOk result (λ r. (r.status ≡ statuses.ReadFailed) × (string_bytes r.text ≡ read_line)) }
+{
+    line(alloc, Status::ReadFailed, "fault read\n")
+}
 
 /// The reply to the first fault of a configuration.
-pub fn configuration_reply(alloc: Global, fault: CfgFault) -> Result<Reply, AllocError>
-    ensures { IfOk result (λ r. (r.status ≡ 2) × (string_bytes r.text ≡ configuration_line fault.line fault.field fault.kind)) }
+pub fn configuration_reply(alloc: Global, fault: CfgFault) -> Result<Reply, OutOfMemory>
+    ensures { IfOk result (λ r. (r.status ≡ statuses.Refused) × (string_bytes r.text ≡ configuration_line fault.line fault.field fault.kind)) }
 {
     let line = fault.line;
     let field = fault.field;
     let kind = fault.kind;
     let text = format!(in alloc; "fault configuration {line} {field} {kind}\n")?;
-    Ok(Reply { status: 2, text })
+    Ok(Reply {
+        status: Status::Refused,
+        text,
+    })
 }
 
 // The plain text of a decimal.
-fn plain_text(alloc: Global, d: DecimalValue) -> Result<String, AllocError>
+fn plain_text(alloc: Global, d: DecimalValue) -> Result<String, OutOfMemory>
     ensures { IfOk result (λ text. string_bytes text ≡ plain d.n) }
 {
     let mut text = Vec::new(alloc);
@@ -31,7 +50,7 @@ fn plain_text(alloc: Global, d: DecimalValue) -> Result<String, AllocError>
     Ok(String::from_utf8(text).unwrap())
 }
 
-fn match_text(alloc: Global, fault: MatchFault) -> Result<String, AllocError>
+fn match_text(alloc: Global, fault: MatchFault) -> Result<String, OutOfMemory>
     ensures { IfOk result (λ text. string_bytes text ≡ match_line fault) }
 {
     match fault {
@@ -48,29 +67,38 @@ fn match_text(alloc: Global, fault: MatchFault) -> Result<String, AllocError>
 }
 
 /// The reply to a channel that can't be measured.
-pub fn match_reply(alloc: Global, fault: MatchFault) -> Result<Reply, AllocError>
-    ensures { IfOk result (λ r. (r.status ≡ 2) × (string_bytes r.text ≡ match_line fault)) }
+pub fn match_reply(alloc: Global, fault: MatchFault) -> Result<Reply, OutOfMemory>
+    ensures { IfOk result (λ r. (r.status ≡ statuses.Refused) × (string_bytes r.text ≡ match_line fault)) }
 {
     let text = match_text(alloc, fault)?;
-    Ok(Reply { status: 2, text })
+    Ok(Reply {
+        status: Status::Refused,
+        text,
+    })
 }
 
 /// The reply to the first fault of data.
-pub fn data_reply(alloc: Global, fault: DatFault) -> Result<Reply, AllocError>
-    ensures { IfOk result (λ r. (r.status ≡ 2) × (string_bytes r.text ≡ data_line fault.row fault.field fault.kind)) }
+pub fn data_reply(alloc: Global, fault: DatFault) -> Result<Reply, OutOfMemory>
+    ensures { IfOk result (λ r. (r.status ≡ statuses.Refused) × (string_bytes r.text ≡ data_line fault.row fault.field fault.kind)) }
 {
     let record = fault.row;
     let field = fault.field;
     let kind = fault.kind;
     let text = format!(in alloc; "fault data {record} {field} {kind}\n")?;
-    Ok(Reply { status: 2, text })
+    Ok(Reply {
+        status: Status::Refused,
+        text,
+    })
 }
 
 /// The reply to a record, counted from 0, whose voltage in a channel is over range.
-pub fn range_reply(alloc: Global, place: u32, channel: u32) -> Result<Reply, AllocError>
-    ensures { IfOk result (λ r. (r.status ≡ 2) × (string_bytes r.text ≡ range_line (place + 1) channel)) }
+pub fn range_reply(alloc: Global, place: u32, channel: u32) -> Result<Reply, OutOfMemory>
+    ensures { IfOk result (λ r. (r.status ≡ statuses.Refused) × (string_bytes r.text ≡ range_line (place + 1) channel)) }
 {
     let row = u64::from(place) + 1;
     let text = format!(in alloc; "fault range {row} {channel}\n")?;
-    Ok(Reply { status: 2, text })
+    Ok(Reply {
+        status: Status::Refused,
+        text,
+    })
 }

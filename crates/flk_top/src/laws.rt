@@ -12,6 +12,11 @@ pub fn answer_is_one()
     ensures { (words : List (List ℕ)) (files : List ℕ → List ℕ) (s t : ℕ) (xs ys : List ℕ) → IsDue words files s xs → IsDue words files t ys → (s ≡ t) × (xs ≡ ys) }
 {}
 
+/// For any words and any files some answer is due. With the law above it is one.
+pub fn an_answer_is_due()
+    ensures { (words : List (List ℕ)) (files : List ℕ → List ℕ) → (status : ℕ) × (text : List ℕ) × IsDue words files status text }
+{}
+
 /// The promise on every exact run speaks of some run. For each list of cuts that is not empty there is a run that the recorded voltages
 /// admit, whatever the uncertainty, and its half-periods have values, of which one is the least and one the greatest. (`nominal` is in
 /// millivolts, `uncertainty` and the voltages are in microvolts, and `half` counts the samples of half a nominal period.)

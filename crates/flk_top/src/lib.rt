@@ -4,7 +4,8 @@
 //! its data, in pieces and blocks of records (`data`). `check` tells of both (`check`). `levels` finds how its channel is measured
 //! (`matching`), turns each sample into the interval of its voltages by the channel's scale, and keeps the least and the greatest value
 //! (`measure`) of the half-periods into which `flk_half` cuts them (`levels`). The answer is composed whole (`text`, `faults`, `reply`)
-//! before `run` writes it. `tables` reads nothing (`tables`). That there is one answer, and that its promise speaks of some run, are laws (`laws`).
+//! before `run` writes it. `tables` reads nothing (`tables`). That there is an answer, and one alone, and that its promise speaks of
+//! some run, are laws (`laws`).
 #![tactic(auto)]
 
 ghost use Rattle.std.specs.Prelude.{◌≡◌, ◌≢◌, ◌⊎◌, ℕ, ◌<◌, List};
@@ -42,13 +43,21 @@ mod text;
 
 use crate::answer::answer;
 use flk_io::{Shelf, Sink, Words, write_all};
-pub use laws::{answer_is_one, promise_is_not_empty};
+pub use laws::{an_answer_is_due, answer_is_one, promise_is_not_empty};
 pub use measure::{Extremes, Levels};
 use std::alloc::Global;
 use std::thread::Threads;
 
+/// The status where a write failed.
+pub const WRITE_FAILED: u8 = 5;
+
+/// The status where no memory was found.
+pub const OUT_OF_MEMORY: u8 = 6;
+
 /// What a caller does as a phase is entered. (No command enters one so far.)
 pub trait Gate {
+    /// Called once for each phase, as it is entered; `phase` counts from 0. A second call with the same number tells of no other phase:
+    /// no phase is entered twice in one run.
     fn enter(&self, phase: usize);
 }
 
@@ -113,10 +122,10 @@ pub fn run<R: Threads + Sync, F: Shelf, K: Sink, G: Gate + Sync>(
     let _ = rt;
     let _ = gate;
     match answer(alloc, words, shelf) {
-        Err(_) => 6,
+        Err(_) => OUT_OF_MEMORY,
         Ok(reply) => match write_all(sink, reply.text.as_bytes()) {
-            Ok(()) => reply.status,
-            Err(_) => 5,
+            Ok(()) => reply.status.number(),
+            Err(_) => WRITE_FAILED,
         },
     }
 }

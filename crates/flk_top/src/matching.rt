@@ -1,6 +1,6 @@
 //! Whether a channel of a configuration can be measured.
 
-ghost use Rattle.std.specs.Prelude.{◌≡◌, ◌≤◌, IfOk, IfErr, IfSome, IfNone};
+ghost use Rattle.std.specs.Prelude.{◌≤◌, IfOk, IfErr, IfSome, IfNone};
 ghost use Rattle.flk_num.specs.declared.lamp.Lamp.{Lamp as LampView};
 ghost use Rattle.flk_cfg.specs.declared.config.Analog.{Analog as AnalogView};
 ghost use Rattle.flk_scale.specs.Scale.{IsScaleOf};

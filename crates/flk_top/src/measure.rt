@@ -139,15 +139,9 @@ impl Measure {
             Err(over) => return Err(over),
         };
         let negative = self.matched.scale.negative(x);
-        let mut cutter = self.cutter;
-        let levels = with_half_period(self.levels, cutter.push(negative, voltage));
-        *self = Measure {
-            matched: self.matched,
-            channel: self.channel,
-            taken: self.taken + 1,
-            cutter,
-            levels,
-        };
+        let half_period = self.cutter.push(negative, voltage);
+        self.taken += 1;
+        self.levels = with_half_period(self.levels, half_period);
         Ok(())
     }
 }

@@ -1,18 +1,44 @@
 //! A whole answer.
 
 ghost use Rattle.std.specs.Prelude.{◌≡◌, IfOk, string_bytes};
+ghost use Rattle.flk_top.specs.Status.{status_number};
 
-use std::alloc::{AllocError, Global};
+use flk_io::OutOfMemory;
+use std::alloc::Global;
+
+/// How a command ends whose whole text is composed.
+#[derive(Clone, Copy, Debug, PartialEq, Eq)]
+pub enum Status {
+    /// The text is that of the command.
+    Done,
+    /// The words, or a file, are refused: the text is one fault line.
+    Refused,
+    /// A read failed: the text is the line `fault read`.
+    ReadFailed,
+}
+
+impl Status {
+    /// The number with which the program ends: 0, 2 or 4.
+    pub fn number(self) -> u8
+        ensures { result ≡ status_number self }
+    {
+        match self {
+            Status::Done => 0,
+            Status::Refused => 2,
+            Status::ReadFailed => 4,
+        }
+    }
+}
 
 /// A status and its whole text.
 #[derive(Drop)]
 pub struct Reply {
-    pub status: u8,
+    pub status: Status,
     pub text: String,
 }
 
 /// One line as the whole answer.
-pub fn line(alloc: Global, status: u8, text: &str) -> Result<Reply, AllocError>
+pub fn line(alloc: Global, status: Status, text: &str) -> Result<Reply, OutOfMemory>
     ensures { IfOk result (λ r. (r.status ≡ status) × (string_bytes r.text ≡ text.now)) }
 {
     let text = String::from_str(alloc, text)?;

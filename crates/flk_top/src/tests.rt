@@ -44,7 +44,8 @@ pub fn varied(alloc: Global, old: &str, new: &str) -> Result<String, OutOfMemory
     Ok(text)
 }
 
-// The configuration X, the same in other bytes as Z, and the data Y.
+// Under X the configuration, under Z the same one in other bytes (lines that end in LF alone, and 0.010 for 0.01), and under Y the
+// data of both.
 fn filled_shelf(alloc: Global) -> Result<MemShelf, OutOfMemory> {
     let mut other = String::new(alloc);
     for part in varied(alloc, ",0.01,", ",0.010,")?.as_str().split('\r') {
@@ -205,15 +206,21 @@ fn failures_are_told(rt: HostRuntime) -> Result<(), Fail> {
     Ok(())
 }
 
+// A shelf whose reads fail.
+fn failing_shelf(alloc: Global) -> Result<MemShelf, OutOfMemory> {
+    let mut shelf = filled_shelf(alloc)?;
+    for call in 1..9 {
+        shelf.fail_at(call)?;
+    }
+    Ok(shelf)
+}
+
 // Whatever the reads do, the tables of a lamp are told, and none is made.
 #[test]
 fn tables_of_each_lamp(rt: HostRuntime) -> Result<(), Fail> {
     for (line, text) in [("tables 230/50", TABLES_230), ("tables 120/60", TABLES_120)] {
         let words = words_of(rt.alloc(), line)?;
-        let mut shelf = filled_shelf(rt.alloc())?;
-        for call in 1..9 {
-            shelf.fail_at(call)?;
-        }
+        let mut shelf = failing_shelf(rt.alloc())?;
         let mut sink = MemSink::new(rt.alloc(), 1000, 100)?;
         let answered = run(&rt, rt.alloc(), &words, &mut shelf, &mut sink, &Open);
         assert_eq!(rt; answered, 0, "{line}");

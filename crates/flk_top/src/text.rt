@@ -1,12 +1,14 @@
 //! The texts of `levels` and `check`.
 
 ghost use Rattle.std.specs.Prelude.{◌≡◌, Some, IfOk, string_bytes};
-ghost use Rattle.flk_top.specs.Text.{billionths, interval_text, levels_text, form_text, check_text};
+ghost use Rattle.flk_cfg.specs.Canonical.{form_text};
+ghost use Rattle.flk_top.specs.Text.{billionths, interval_text, levels_text, check_text};
 
 use crate::measure::Levels;
 use flk_cfg::{Config, Form};
+use flk_io::OutOfMemory;
 use flk_num::Interval;
-use std::alloc::{AllocError, Global};
+use std::alloc::Global;
 use std::fmt;
 
 const BILLION: u128 = 1_000_000_000;
@@ -40,7 +42,7 @@ impl fmt::Display for Ends {
 }
 
 /// The four lines of `levels`.
-pub fn levels_lines(alloc: Global, channel: u32, levels: Levels) -> Result<String, AllocError>
+pub fn levels_lines(alloc: Global, channel: u32, levels: Levels) -> Result<String, OutOfMemory>
     ensures { IfOk result (λ text. string_bytes text ≡ levels_text channel levels) }
 {
     let count = levels.count;
@@ -68,7 +70,7 @@ fn form_word(form: Form) -> &'static str
 }
 
 /// The five lines of `check`, for data whose first record has this sample number.
-pub fn check_lines(alloc: Global, config: &Config, first: u32) -> Result<String, AllocError>
+pub fn check_lines(alloc: Global, config: &Config, first: u32) -> Result<String, OutOfMemory>
     ensures { IfOk result (λ text. string_bytes text ≡ check_text config.now first) }
 {
     let analog = config.analog.as_slice().len();

@@ -1,5 +1,5 @@
 use Rattle.std.proofs.Common.{◌∙◌, inr}
-use Rattle.flk_top.proofs.Replies.{configuration_told, check_told, check_read}
+use Rattle.flk_top.proofs.Replies.{configuration_told, check_told, check_read, only_reads_on}
 use Rattle.flk_top.proofs.check.check_reply.Goals as goal
 
 pub returns-in-Ok-clause-due : goal.returns-in-Ok-clause-due
@@ -7,14 +7,11 @@ returns-in-Ok-clause-due g c =
     check_told c.args.words.now (g.F.Shelf.left c.args.shelf.now) (g.F.Shelf.left c.read_configuration.new.shelf) c.word.result.now c.word-in-Ok.result.now c.in-Ok.config c.summary_reply.result
     c.requires c.word.ensures c.word-in-Ok.ensures c.read_configuration.ensures.others c.in-Ok.ensures.configuration c.summary_reply.ensures.due
 
-pub returns-in-Ok-clause-read : goal.returns-in-Ok-clause-read
-returns-in-Ok-clause-read g c = rw c.in-Ok.ensures.quiet at c.summary_reply.ensures.read
+pub returns-in-Ok-clause-honest : goal.returns-in-Ok-clause-honest
+returns-in-Ok-clause-honest g c = rw c.in-Ok.ensures.quiet at c.summary_reply.ensures.honest
 
-pub returns-in-Ok-clause-quiet : goal.returns-in-Ok-clause-quiet
-returns-in-Ok-clause-quiet g c = rw c.in-Ok.ensures.quiet at c.summary_reply.ensures.quiet
-
-pub returns-in-Ok-clause-added : goal.returns-in-Ok-clause-added
-returns-in-Ok-clause-added g c = λ name. c.summary_reply.ensures.added name ∙ c.read_configuration.ensures.added name
+pub returns-in-Ok-clause-only_reads : goal.returns-in-Ok-clause-only_reads
+returns-in-Ok-clause-only_reads g c = only_reads_on _ _ _ _ _ _ _ _ _ c.read_configuration.ensures.only_reads c.summary_reply.ensures.only_reads
 
 pub returns-in-Ok-clause-others : goal.returns-in-Ok-clause-others
 returns-in-Ok-clause-others g c = λ other first second.

@@ -4,6 +4,7 @@ use Rattle.flk_num.specs.declared.stop.Stop.TheVariants.{Fault}
 use Rattle.flk_cfg.specs.File.{IsConfig, IsFileAnswer}
 use Rattle.flk_cfg.proofs.ReadLaws.{read_is_valid}
 use Rattle.flk_top.specs.Faults.{configuration_line, configuration_limit}
+use Rattle.flk_top.specs.declared.reply.Status.TheVariants.{Refused}
 use Rattle.flk_top.proofs.Replies.{refused_configuration}
 use Rattle.flk_top.proofs.configuration.read_configuration.Goals as goal
 
@@ -23,5 +24,5 @@ returns-in-Err-Fault-clause-refusal g c = λ fine held is.
     let small : length bytes ≤ configuration_limit = search rules in
     let found : IsFileAnswer c.deref.result.now (Err (Fault fault)) = search rules in
     let first : IsFileAnswer bytes (Err (Fault fault)) = rw c.deref.ensures.value at found in
-    let told : (reply.status ≡ 2) × (string_bytes reply.text ≡ configuration_line fault.line fault.field fault.kind) = search rules in
+    let told : (reply.status ≡ Refused) × (string_bytes reply.text ≡ configuration_line fault.line fault.field fault.kind) = search rules in
     refused_configuration left after bytes held fault reply took small first told is

@@ -1,6 +1,6 @@
 use Rattle.std.proofs.Common.{◌∙◌, inl}
 use Rattle.flk_top.specs.Faults.{match_line}
-use Rattle.flk_top.proofs.Replies.{configuration_told, match_told, levels_told, levels_read, data_untouched, two_known, two_read}
+use Rattle.flk_top.proofs.Replies.{configuration_told, match_told, levels_told, levels_read, data_untouched, refused_honest, only_reads_on}
 use Rattle.flk_top.proofs.levels.levels_reply.Goals as goal
 
 pub returns-in-Err-Fault-clause-due : goal.returns-in-Err-Fault-clause-due
@@ -20,14 +20,11 @@ returns-in-Ok-match_channel-clause-due g c =
     levels_told c.args.words.now (g.F.Shelf.left c.args.shelf.now) (g.F.Shelf.left c.read_configuration.new.shelf) c.word.result.now c.word-in-Ok-match_channel.result.now c.args.command c.in-Ok.config m.0 c.in-Ok-match_channel.matched c.measured_reply.result
     c.requires c.word.ensures c.word-in-Ok-match_channel.ensures c.read_configuration.ensures.others c.in-Ok.ensures.configuration (record { matches = m.1; scale = m.2 }) c.measured_reply.ensures.due
 
-pub returns-in-Ok-match_channel-clause-read : goal.returns-in-Ok-match_channel-clause-read
-returns-in-Ok-match_channel-clause-read g c = rw c.in-Ok.ensures.quiet at c.measured_reply.ensures.read
+pub returns-in-Ok-match_channel-clause-honest : goal.returns-in-Ok-match_channel-clause-honest
+returns-in-Ok-match_channel-clause-honest g c = rw c.in-Ok.ensures.quiet at c.measured_reply.ensures.honest
 
-pub returns-in-Ok-match_channel-clause-quiet : goal.returns-in-Ok-match_channel-clause-quiet
-returns-in-Ok-match_channel-clause-quiet g c = rw c.in-Ok.ensures.quiet at c.measured_reply.ensures.quiet
-
-pub returns-in-Ok-match_channel-clause-added : goal.returns-in-Ok-match_channel-clause-added
-returns-in-Ok-match_channel-clause-added g c = λ name. c.measured_reply.ensures.added name ∙ c.read_configuration.ensures.added name
+pub returns-in-Ok-match_channel-clause-only_reads : goal.returns-in-Ok-match_channel-clause-only_reads
+returns-in-Ok-match_channel-clause-only_reads g c = only_reads_on _ _ _ _ _ _ _ _ _ c.read_configuration.ensures.only_reads c.measured_reply.ensures.only_reads
 
 pub returns-in-Ok-match_channel-clause-others : goal.returns-in-Ok-match_channel-clause-others
 returns-in-Ok-match_channel-clause-others g c = λ other first second.
@@ -46,11 +43,9 @@ returns-clause-due g c =
     match_told c.args.words.now (g.F.Shelf.left c.args.shelf.now) (g.F.Shelf.left c.read_configuration.new.shelf) c.word.result.now c.args.command c.in-Ok.config c.in-Err.fault c.match_reply.result c.requires c.word.ensures
     c.in-Ok.ensures.configuration c.in-Err.ensures.fault c.match_reply.ensures
 
-pub returns-clause-known : goal.returns-clause-known
-returns-clause-known g c = two_known (match_line c.in-Err.fault) c.match_reply.result c.match_reply.ensures
-
-pub returns-clause-read : goal.returns-clause-read
-returns-clause-read g c = two_read (match_line c.in-Err.fault) (g.F.Shelf.read_faults c.args.shelf.now) (g.F.Shelf.read_faults c.read_configuration.new.shelf) c.match_reply.result c.match_reply.ensures
+pub returns-clause-honest : goal.returns-clause-honest
+returns-clause-honest g c =
+    refused_honest (match_line c.in-Err.fault) (g.F.Shelf.read_faults c.args.shelf.now) (g.F.Shelf.read_faults c.read_configuration.new.shelf) c.match_reply.result c.match_reply.ensures c.in-Ok.ensures.quiet
 
 pub returns-clause-others : goal.returns-clause-others
 returns-clause-others g c = λ other first second. c.read_configuration.ensures.others other (λ same. first (same ∙ c.word.ensures))

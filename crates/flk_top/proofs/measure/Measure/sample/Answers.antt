@@ -8,8 +8,8 @@ pub returns-clause-measured : goal.returns-clause-measured
 returns-clause-measured c = λ recorded h.
     let same : to_z w32 (of_z w32 c.args.x) ≡ c.args.x = search rules in
     let negative = rw same at c.negative-negative.ensures in
-    let none = rw negative at c.push.ensures.none in
-    let some = rw negative at c.push.ensures.some in
+    let none = rw negative at c.push-half_period.ensures.none in
+    let some = rw negative at c.push-half_period.ensures.some in
     let within = rw same at c.in-Ok.ensures.within in
     let interval = rw same at c.in-Ok.ensures.interval in
-    measured_more c.args.self.now _ recorded (voltage_of c.args.self.now.matched.scale c.args.x) c.in-Ok.voltage c.push.result h refl refl c.with_half_period-levels.ensures within interval none some
+    measured_more c.args.self.now _ recorded (voltage_of c.args.self.now.matched.scale c.args.x) c.in-Ok.voltage c.push-half_period.result h refl refl c.with_half_period-self.ensures within interval none some
