@@ -2,13 +2,10 @@
 #![tactic(auto)]
 
 use flk_io::{FileShelf, StdSink, Words};
-use flk_top::{Gate, run};
+use flk_top::{Gate, OUT_OF_MEMORY, run};
 use std::alloc::Global;
 use std::process::ExitCode;
 use std::{env, io};
-
-/// The status where no memory is found before the top call.
-const OUT_OF_MEMORY: u8 = 6;
 
 /// A gate at which nothing is done.
 struct Open;
@@ -19,7 +16,7 @@ impl Gate for Open {
     }
 }
 
-// The words of the command line after the program's name.
+// The words of the command line after the program's name. The error is InvalidData where one isn't UTF-8 text.
 fn words_of(rt: &HostRuntime, alloc: Global) -> io::Result<Words> {
     let mut words = Words::new(alloc);
     for word in env::args(rt)?.skip(1) {
@@ -30,8 +27,12 @@ fn words_of(rt: &HostRuntime, alloc: Global) -> io::Result<Words> {
 
 fn main(rt: HostRuntime) -> ExitCode {
     let alloc = rt.alloc();
-    let Ok(words) = words_of(&rt, alloc) else {
-        return ExitCode::from(OUT_OF_MEMORY);
+    let words = match words_of(&rt, alloc) {
+        Ok(words) => words,
+        // What isn't text is no word of any command.
+        Err(error) if error.kind() == io::ErrorKind::InvalidData => Words::new(alloc),
+        // As where no memory is found in the top call.
+        Err(_) => return ExitCode::from(OUT_OF_MEMORY),
     };
     let mut shelf = FileShelf::new(&rt, alloc);
     let mut sink = StdSink::new(&rt);
