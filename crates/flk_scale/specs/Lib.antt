@@ -4,3 +4,4 @@ pub mod Parts
 pub mod Samples
 pub mod Slope
 pub mod Scale
+pub mod Channel

@@ -5,8 +5,11 @@
 //!
 //! What can be divided is divided once (`parts`): a sample costs products and comparisons alone (`slope`), and which samples are
 //! over range or negative is found beforehand (`samples`).
+//!
+//! [`is_frequency_of`] says whether a line frequency is that of a lamp's supply.
 #![tactic(auto)]
 
+mod frequency;
 mod parts;
 mod samples;
 mod scale;
@@ -16,5 +19,6 @@ mod supply;
 mod tests;
 mod unit;
 
+pub use frequency::is_frequency_of;
 pub use scale::{OverRange, Scale, ScaleFault};
 pub use supply::Supply;
