@@ -1,0 +1,4 @@
+pub mod DataLemmas
+pub mod KeyLemmas
+pub mod ChannelLemmas
+pub mod MatchLemmas

@@ -1,0 +1,5 @@
+pub mod Kinds
+pub mod Table
+pub mod Job
+pub mod Matching
+pub mod Reading

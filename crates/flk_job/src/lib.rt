@@ -1,0 +1,22 @@
+//! The job: what is to be measured of a recording, and whether a configuration has it.
+//!
+//! [`read_job`] reads a job file, a TOML document: it answers the job that the document has, or its first fault. `specs/` says what that
+//! is: `Table` has the keys with their types, sets and defaults, `Job` the document, the job and the first fault. [`match_job`] tests a
+//! configuration against a job, and `Matching` has its tests in their order.
+#![tactic(auto)]
+
+mod channels;
+mod document;
+mod job;
+mod key;
+mod kind;
+mod matching;
+mod values;
+
+pub use job::{Job, read_job};
+pub use key::Key;
+pub use kind::{JobFault, Kind};
+pub use matching::{MatchFault, match_job};
+
+#[cfg(test)]
+mod tests;
