@@ -24,7 +24,8 @@ use Rattle.flk_dat.specs.Kinds.{kind_number as record_kind}
 use Rattle.flk_dat.specs.Records.{record_at, layout_of}
 use Rattle.flk_dat.proofs.FileCases.{accepted_or_first_fault}
 use Rattle.flk_top.specs.Command.{IsLevels, configuration_name, data_name}
-use Rattle.flk_top.specs.Matching.{IsChannel, IsFrequencyOf, Matches, IsMatchFault, recorded_voltages}
+use Rattle.flk_scale.specs.Channel.{IsChannel, IsFrequencyOf}
+use Rattle.flk_top.specs.Matching.{Matches, IsMatchFault, recorded_voltages}
 use Rattle.flk_top.specs.Text.{levels_text, check_text}
 use Rattle.flk_top.specs.Tables.{section_line, gain_line, AreSectionLines, IsRefused, AreLines, IsFirstRefused, lamp_line, IsDueForTables, certified, refused}
 use Rattle.flk_top.specs.Faults.{usage_line, match_line, data_line, range_line, configuration_line, configuration_limit, IsConfigurationFault, too_long, first_fault}

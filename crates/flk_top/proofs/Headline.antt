@@ -18,7 +18,8 @@ use Rattle.flk_dat.proofs.Sequences.{follows_at}
 use Rattle.flk_dat.proofs.RecordLaws.{record_or_fault}
 use Rattle.flk_dat.proofs.FileLaws.{each_once, file_once, accepted_or_fault_after}
 use Rattle.flk_top.specs.Command.{IsNumberIn, IsLevels, IsCheck, IsTables, configuration_name, data_name}
-use Rattle.flk_top.specs.Matching.{IsChannel, IsFrequencyOf, Matches, IsMatchFault, sample_of, recorded_voltages}
+use Rattle.flk_scale.specs.Channel.{IsChannel, IsFrequencyOf}
+use Rattle.flk_top.specs.Matching.{Matches, IsMatchFault, sample_of, recorded_voltages}
 use Rattle.flk_top.specs.Levels.{voltage_at, IsFirstOver, IsWithinRange, AreLevels}
 use Rattle.flk_top.specs.Faults.{IsConfigurationFault, too_long, first_fault}
 use Rattle.flk_top.specs.Answer.{IsConfiguration, IsDueForLevels, data_fault, over_range, measured, IsDue, usage, configuration, match, levels, check, tables, AreAccepted}

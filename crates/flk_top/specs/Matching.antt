@@ -1,25 +1,15 @@
 -- Which channels of a configuration can be measured, and the voltages that they record.
-use Rattle.std.specs.Prelude.{◌≡◌, ℕ, ◌-◌, ◌*◌, ◌^◌, ◌<◌, ◌≤◌, List, length, map, slice_index_or, ℤ, pos}
+use Rattle.std.specs.Prelude.{◌≡◌, ℕ, ◌-◌, ◌<◌, List, length, map, slice_index_or, ℤ, pos}
 use Rattle.flk_exact.specs.Fraction.{Fraction}
-use Rattle.flk_num.specs.Lamp.{hertz_of}
 use Rattle.flk_num.specs.declared.lamp.Lamp.{Lamp}
 use Rattle.flk_cfg.specs.declared.config.Analog.{Analog}
 use Rattle.flk_cfg.specs.declared.config.Config.{Config}
 use Rattle.flk_scale.specs.Voltage.{IsVoltageUnit, recorded_voltage}
 use Rattle.flk_scale.specs.Scale.{HasSmallScale, HasScale}
+use Rattle.flk_scale.specs.Channel.{IsChannel, IsFrequencyOf}
 use Rattle.flk_dat.specs.Records.{DataRecord}
 use Rattle.flk_top.specs.declared.matching.MatchFault.{MatchFault}
 use Rattle.flk_top.specs.declared.matching.MatchFault.TheVariants as faults
-
--- the analog channel of this number, from 1
-pub record IsChannel (c : Config) (channel : ℕ) (a : Analog) : Type 0 where
-  pub from : 1 ≤ channel
-  pub within : channel ≤ length c.analog
-  pub is : (none : Analog) → slice_index_or c.analog (channel - 1) none ≡ a
-
--- so many units of 10^-24 of a hertz are the nominal frequency of the lamp's supply
-abbrev pub IsFrequencyOf : Lamp → ℤ → Type 0
-IsFrequencyOf lamp n = n ≡ pos (hertz_of lamp * 10 ^ 24)
 
 -- The channel can be measured: it is there, its unit is one of voltage, its a and b are at most 10000 in size, and the line frequency
 -- is 50 or 60 Hz.

@@ -4,11 +4,12 @@ ghost use Rattle.std.specs.Prelude.{◌≤◌, IfOk, IfErr, IfSome, IfNone};
 ghost use Rattle.flk_num.specs.declared.lamp.Lamp.{Lamp as LampView};
 ghost use Rattle.flk_cfg.specs.declared.config.Analog.{Analog as AnalogView};
 ghost use Rattle.flk_scale.specs.Scale.{IsScaleOf};
-ghost use Rattle.flk_top.specs.Matching.{IsFrequencyOf, Matches, IsMatchFault};
+ghost use Rattle.flk_scale.specs.Channel.{IsFrequencyOf};
+ghost use Rattle.flk_top.specs.Matching.{Matches, IsMatchFault};
 
 use flk_cfg::Config;
 use flk_num::Lamp;
-use flk_scale::{Scale, ScaleFault, Supply};
+use flk_scale::{Scale, ScaleFault, Supply, is_frequency_of};
 use flk_text::DecimalValue;
 
 /// Why a channel of a configuration can't be measured: the first test that fails.
@@ -33,20 +34,15 @@ pub struct Matched {
     pub lamp: Lamp,
 }
 
-// 50 and 60 Hz in units of 10^-24.
-const FIFTY_HERTZ: i128 = 50_000_000_000_000_000_000_000_000;
-
-const SIXTY_HERTZ: i128 = 60_000_000_000_000_000_000_000_000;
-
 // The lamp of a line frequency in units of 10^-24 of a hertz.
-fn lamp_of(lf: i128) -> Option<Lamp>
-    ensures some { IfSome result (λ lamp. IsFrequencyOf lamp lf) }
-    ensures none { IfNone result ((lamp : LampView) → ¬ IsFrequencyOf lamp lf) }
+fn lamp_of(lf: DecimalValue) -> Option<Lamp>
+    ensures some { IfSome result (λ lamp. IsFrequencyOf lamp lf.n) }
+    ensures none { IfNone result ((lamp : LampView) → ¬ IsFrequencyOf lamp lf.n) }
 {
-    if lf == FIFTY_HERTZ {
+    if is_frequency_of(Lamp::L230, lf) {
         return Some(Lamp::L230);
     }
-    if lf == SIXTY_HERTZ {
+    if is_frequency_of(Lamp::L120, lf) {
         return Some(Lamp::L120);
     }
     None
@@ -70,7 +66,7 @@ pub fn match_channel(channel: u32, supply: &Supply, config: &Config) -> Result<M
         Err(ScaleFault::Unit) => return Err(MatchFault::Unit { channel }),
         Err(ScaleFault::Scale) => return Err(MatchFault::Scale { channel }),
     };
-    match lamp_of(config.lf.n) {
+    match lamp_of(config.lf) {
         Some(lamp) => Ok(Matched { scale, lamp }),
         None => Err(MatchFault::Lamp { lf: config.lf }),
     }

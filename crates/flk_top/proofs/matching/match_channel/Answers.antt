@@ -1,6 +1,6 @@
 use Rattle.std.proofs.Common.{rules, refl}
 use Rattle.flk_num.specs.declared.lamp.Lamp.{Lamp}
-use Rattle.flk_top.specs.Matching.{IsChannel, IsFrequencyOf}
+use Rattle.flk_scale.specs.Channel.{IsChannel, IsFrequencyOf}
 use Rattle.flk_top.proofs.matching.match_channel.Goals as goal
 
 pub returns-in-Some-lamp_of-clause-matched : goal.returns-in-Some-lamp_of-clause-matched
