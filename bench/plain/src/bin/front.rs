@@ -1,5 +1,5 @@
 //! The adaptor and the squaring of pseudo-random voltages, in plain Rust with the same integer arithmetic: the yardstick of
-//! `bench/front.py`. It takes the number of samples, and prints a checksum of all points.
+//! `bench/flickermeter.py`. It takes the number of samples, and prints a checksum of all points.
 
 use plain::cutter::squares;
 use std::env;

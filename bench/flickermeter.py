@@ -1,0 +1,127 @@
+#!/usr/bin/env python3
+"""Times `Front::push` of the crate flk_front and `Cascade::step` of flk_section, each beside a plain Rust program of the same integer
+arithmetic.
+
+    bench/flickermeter.py [SAMPLES] [RUNS]
+
+Builds a small program over each crate in a temporary folder by `rt run`, which proves it. The programs take SAMPLES pseudo-random samples
+(10,000,000 where nothing is said) and print a checksum of all answers: the front takes voltages with a mean square of about 1, as intervals
+of about 5e-11 of nominal, and the cascade of the lamp 230/50 takes points of up to 4 times nominal squared. Runs both programs RUNS times
+(5) in turn, compares what they print, and prints for each the least processor time, and the ratio."""
+import sys
+import tempfile
+
+import programs
+
+FRONT = """//! Pushes pseudo-random voltages into a front, and prints a checksum of all points.
+#![tactic(auto)]
+
+use flk_front::Front;
+use flk_num::Interval;
+use std::io;
+
+fn step(front: &mut Front, state: u32) -> u64 {
+    let v = (i128::from(state) - 2_147_483_648) * 227_023;
+    let p = front.push(Interval { lo: v - 7658, hi: v + 7658 });
+    (p.mid as u64) ^ (p.radius as u64)
+}
+
+fn main(rt: HostRuntime) -> io::Result<()> {
+    let mut front = Front::new();
+    let mut state: u32 = 1;
+    let mut sum: u64 = 0;
+    for _ in 0..%du32 {
+        state = state.wrapping_mul(1_664_525).wrapping_add(1_013_904_223);
+        sum = sum.wrapping_mul(31).wrapping_add(step(&mut front, state));
+    }
+    println!(rt; "{sum}")?;
+    Ok(())
+}
+"""
+
+CASCADE = """//! Takes pseudo-random points through the cascade of a lamp, and prints a checksum of all answers.
+#![tactic(auto)]
+
+use flk_cert::{Coefs, Gain, check, make};
+use flk_design::design;
+use flk_front::Point;
+use flk_num::Lamp;
+use flk_section::{Cascade, fits};
+use std::alloc::Global;
+use std::io;
+
+fn gain_of(alloc: Global, k: &Coefs) -> Option<Gain> {
+    match make(alloc, k) {
+        Ok(cert) => check(k, &cert).ok(),
+        Err(_) => None,
+    }
+}
+
+fn gains_of(alloc: Global) -> Option<[Gain; 7]> {
+    let sections = design(Lamp::L230);
+    let mut gains = [gain_of(alloc, &sections[0])?; 7];
+    for i in 1..7 {
+        gains[i] = gain_of(alloc, &sections[i])?;
+    }
+    Some(gains)
+}
+
+fn step(cascade: &mut Cascade, state: u32) -> u64 {
+    let p = cascade.step(Point { mid: i128::from(state) * 262_144, radius: i128::from(state >> 22) });
+    (p.mid.unsigned_abs() as u64) ^ (p.radius as u64)
+}
+
+fn main(rt: HostRuntime) -> io::Result<()> {
+    let Some(gains) = gains_of(rt.alloc()) else {
+        return Ok(());
+    };
+    if !fits(&gains) {
+        return Ok(());
+    }
+    let mut cascade = Cascade::new(gains);
+    let mut state: u32 = 1;
+    let mut sum: u64 = 0;
+    for _ in 0..%du32 {
+        state = state.wrapping_mul(1_664_525).wrapping_add(1_013_904_223);
+        sum = sum.wrapping_mul(31).wrapping_add(step(&mut cascade, state));
+    }
+    println!(rt; "{sum}")?;
+    Ok(())
+}
+"""
+
+# The crate that is timed, the program over it with the crates that it uses, and the plain program.
+TIMED = [
+    ("flk_front", FRONT, ["flk_num", "flk_front"], "front"),
+    ("flk_section", CASCADE, ["flk_num", "flk_cert", "flk_design", "flk_front", "flk_section"], "cascade"),
+]
+
+
+def compared(crate, both, samples, runs):
+    """Runs both programs in turn, and prints their least times and the ratio."""
+    best, texts = {}, set()
+    for _ in range(runs):
+        for name, words in both.items():
+            seconds, _, out = programs.run(words)
+            best[name] = min(best.get(name, seconds), seconds)
+            texts.add(out)
+    if len(texts) != 1 or texts == {b""}:
+        sys.exit("the two programs print different texts, or nothing: %s" % texts)
+    for name in both:
+        print("%-11s %7.3f s  %6.1f ns a sample" % (name, best[name], 1e9 * best[name] / samples))
+    print("ratio %.2f" % (best[crate] / best["plain Rust"]))
+
+
+def main():
+    samples = int(sys.argv[1]) if len(sys.argv) > 1 else 10_000_000
+    runs = int(sys.argv[2]) if len(sys.argv) > 2 else 5
+    print("%d samples, best of %d runs" % (samples, runs))
+    for crate, text, uses, plain in TIMED:
+        with tempfile.TemporaryDirectory() as folder:
+            program = programs.over_crates(folder, "bench_" + plain, uses, {"src/main.rt": text % samples})
+            both = {crate: [program], "plain Rust": [programs.plain(folder, plain), str(samples)]}
+            compared(crate, both, samples, runs)
+
+
+if __name__ == "__main__":
+    main()
