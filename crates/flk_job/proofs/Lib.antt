@@ -2,3 +2,4 @@ pub mod DataLemmas
 pub mod KeyLemmas
 pub mod ChannelLemmas
 pub mod MatchLemmas
+pub mod JobLaws

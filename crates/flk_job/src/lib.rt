@@ -2,7 +2,8 @@
 //!
 //! [`read_job`] reads a job file, a TOML document: it answers the job that the document has, or its first fault. `specs/` says what that
 //! is: `Table` has the keys with their types, sets and defaults, `Job` the document, the job and the first fault. [`match_job`] tests a
-//! configuration against a job, and `Matching` has its tests in their order.
+//! configuration against a job, and `Matching` has its tests in their order. The functions of [`laws`] have empty bodies: their contracts are
+//! laws of these definitions.
 #![tactic(auto)]
 
 mod channels;
@@ -10,12 +11,14 @@ mod document;
 mod job;
 mod key;
 mod kind;
+mod laws;
 mod matching;
 mod values;
 
 pub use job::{Job, read_job};
 pub use key::Key;
 pub use kind::{JobFault, Kind};
+pub use laws::{bytes_of_a_job_have_no_fault, bytes_write_one_job};
 pub use matching::{MatchFault, match_job};
 
 #[cfg(test)]
