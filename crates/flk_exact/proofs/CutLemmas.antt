@@ -1,10 +1,10 @@
 -- The cuts of a recording: there is one list of them, what one more sample does to it, and what the half-periods keep.
-use Rattle.std.proofs.Common.{◌≡◌, ◌≢◌, ◌⊎◌, inl, inr, ℕ, ◌+◌, ◌-◌, ◌*◌, ◌<◌, ◌≤◌, Bool, true, false, List, [], ◌∷◌, ◌++◌, length, get_or, refl, sym, ap, subst, ⊎_elim, arith, length-append, append_assoc, append-nil, drop, length-take}
+use Rattle.std.proofs.Common.{◌≡◌, ◌≢◌, ◌⊎◌, inl, inr, ℕ, ◌+◌, ◌-◌, ◌*◌, ◌<◌, ◌≤◌, Bool, true, false, List, [], ◌∷◌, ◌++◌, length, get_or, refl, sym, ap, subst, ⊎_elim, arith, length-append, append_assoc, append-nil, drop, length-take, length-drop}
 use Rattle.std.specs.Prelude.{slice_range}
 use Rattle.std.specs.List.{All, AllZip}
 use Rattle.std.proofs.lemmas.Bool.{cases_lt, cases_eq, true≢false, false≢true}
-use Rattle.std.proofs.lemmas.List.{get_or_append_left}
-use Rattle.std.proofs.lemmas.List.Elements.{All-nil, All-cons, All-head, All-tail}
+use Rattle.std.proofs.lemmas.List.{get_or_append_left, take_all}
+use Rattle.std.proofs.lemmas.List.Elements.{All-nil, All-cons, All-head, All-tail, All-take, All-drop}
 use Rattle.flk_exact.specs.Cut.{Ends, IsNextCut, AreCutsFrom, AreCuts, parts_from, half_periods, last_cut_from, last_cut}
 use Rattle.flk_exact.proofs.WholeLemmas.{neither_less}
 use Rattle.flk_exact.proofs.ListLemmas.{AllZip-slice_range, slice_range-append}
@@ -17,6 +17,14 @@ AllZip-parts_from R s (p ∷ ps) xs ys h = (AllZip-slice_range R s p xs ys h, Al
 
 pub AllZip-half_periods : {A B : Type 0} (R : A → B → Type 0) (cuts : List ℕ) (xs : List A) (ys : List B) → AllZip R xs ys → AllZip (AllZip R) (half_periods cuts xs) (half_periods cuts ys)
 AllZip-half_periods R cuts xs ys h = AllZip-parts_from R 0 cuts xs ys h
+
+-- what holds of each item of a list holds of each item of its parts
+pub All-parts_from : {A : Type 0} (P : A → Type 0) (s : ℕ) (cuts : List ℕ) (xs : List A) → All P xs → All (All P) (parts_from s cuts xs)
+All-parts_from P s [] xs h = All-nil (All P)
+All-parts_from P s (p ∷ ps) xs h = All-cons (All P) (slice_range xs s p) (parts_from p ps xs) (All-take P (p - s) (drop s xs) (All-drop P s xs h)) (All-parts_from P p ps xs h)
+
+pub All-half_periods : {A : Type 0} (P : A → Type 0) (cuts : List ℕ) (xs : List A) → All P xs → All (All P) (half_periods cuts xs)
+All-half_periods P cuts xs h = All-parts_from P 0 cuts xs h
 
 pub length-parts_from : {A : Type 0} (s : ℕ) (cuts : List ℕ) (xs : List A) → length (parts_from s cuts xs) ≡ length cuts
 length-parts_from s [] xs = refl
@@ -132,6 +140,23 @@ AreCuts-push half negative b cuts h later ends = AreCutsFrom-push half negative 
 
 pub AreCuts-none : (half : ℕ) → AreCuts half [] []
 AreCuts-none half = λ q after within ends. absurd (omega arith)
+
+-- the half-periods of a list with one item more, where none ends before it
+pub half_periods-more : {A : Type 0} (half : ℕ) (negative : List Bool) (xs : List A) (cuts : List ℕ) (x : A) → AreCuts half negative cuts → length xs ≡ length negative → half_periods cuts (xs ++ x ∷ []) ≡ half_periods cuts xs
+half_periods-more half negative xs cuts x are same =
+    half_periods-append cuts xs (x ∷ []) (subst (λ (n : ℕ). All (λ p. p < n) cuts) (sym same) (AreCuts-below half negative cuts are))
+
+-- and where one ends: it has the items since the last cut
+pub half_periods-ended : {A : Type 0} (half : ℕ) (negative : List Bool) (xs : List A) (cuts : List ℕ) (x : A) → AreCuts half negative cuts → length xs ≡ length negative
+    → half_periods (cuts ++ length negative ∷ []) (xs ++ x ∷ []) ≡ half_periods cuts xs ++ drop (last_cut cuts) xs ∷ []
+half_periods-ended half negative xs cuts x are same =
+    let p = length negative in
+    let s = last_cut cuts in
+    let pushed = half_periods-push cuts p (xs ++ x ∷ []) in
+    let before = half_periods-more half negative xs cuts x are same in
+    let part = slice_range-append s p xs (x ∷ []) (omega (arith, same)) in
+    let whole : slice_range xs s p ≡ drop s xs = take_all (p - s) (drop s xs) (omega (arith, same, length-drop s xs)) in
+    cc
 
 -- ---- there is one list of cuts
 

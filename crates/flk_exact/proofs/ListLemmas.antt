@@ -1,10 +1,11 @@
 -- Lists side by side, what a list made of another contains, and parts of a list that goes on.
 use Rattle.std.proofs.Common.{◌≡◌, ℕ, zero, suc, ◌-◌, ◌<◌, ◌≤◌, List, [], ◌∷◌, ◌++◌, length, take, drop, map, get_or, refl, sym, ap, ◌∙◌, arith, length-drop, ⊎_elim}
-use Rattle.std.specs.Prelude.{slice_range}
-use Rattle.std.specs.List.{AllZip, Contains}
+use Rattle.std.specs.Prelude.{slice_range, reverse}
+use Rattle.std.specs.List.{All, AllZip, Contains}
 use Rattle.std.proofs.lemmas.Bool.{cases_lt}
-use Rattle.std.proofs.lemmas.List.{take-append-le, drop-append-le, length-map, get_or-map}
-use Rattle.std.proofs.lemmas.List.Elements.{Contains-get_or}
+use Rattle.std.proofs.lemmas.Grind.{reverse_onto}
+use Rattle.std.proofs.lemmas.List.{take-append-le, drop-append-le, length-map, get_or-map, reverse-append}
+use Rattle.std.proofs.lemmas.List.Elements.{Contains-get_or, All-append, All-cons, All-nil, All-head, All-tail}
 
 pub AllZip-length : {A B : Type 0} (R : A → B → Type 0) (xs : List A) (ys : List B) → AllZip R xs ys → length xs ≡ length ys
 AllZip-length R [] [] h = refl
@@ -116,6 +117,32 @@ AllZip-from_map R f [] [] h = tt
 AllZip-from_map R f [] (y ∷ ys) h = absurd h
 AllZip-from_map R f (x ∷ xs) [] h = absurd h
 AllZip-from_map R f (x ∷ xs) (y ∷ ys) h = (h.0, AllZip-from_map R f xs ys h.1)
+
+-- ---- lists turned round
+
+-- the last item comes first
+pub reverse-push : {A : Type 0} (xs : List A) (x : A) → reverse (xs ++ x ∷ []) ≡ x ∷ reverse xs
+reverse-push xs x = reverse-append xs (x ∷ [])
+
+pub AllZip-reverse : {A B : Type 0} (R : A → B → Type 0) (xs : List A) (ys : List B) → AllZip R xs ys → AllZip R (reverse xs) (reverse ys)
+AllZip-reverse R [] [] h = tt
+AllZip-reverse R [] (y ∷ ys) h = absurd h
+AllZip-reverse R (x ∷ xs) [] h = absurd h
+AllZip-reverse R (x ∷ xs) (y ∷ ys) h = rw (reverse_onto xs x [], reverse_onto ys y []) (AllZip-push R (reverse xs) (reverse ys) x y (AllZip-reverse R xs ys h.1) h.0)
+
+pub All-reverse : {A : Type 0} (P : A → Type 0) (xs : List A) → All P xs → All P (reverse xs)
+All-reverse P [] h = h
+All-reverse P (x ∷ xs) h =
+    rw (reverse_onto xs x []) (All-append P (reverse xs) (x ∷ []) (All-reverse P xs (All-tail P x xs h)) (All-cons P x [] (All-head P x xs h) (All-nil P)))
+
+-- ---- parts and items
+
+-- where all that stands beside an item of one kind is of another kind, so is the list beside a list of the one
+pub All-beside : {A B : Type 0} (P : A → Type 0) (R : A → B → Type 0) (Q : B → Type 0) → ((x : A) (y : B) → P x → R x y → Q y) → (xs : List A) (ys : List B) → All P xs → AllZip R xs ys → All Q ys
+All-beside P R Q f [] [] all h = All-nil Q
+All-beside P R Q f [] (y ∷ ys) all h = absurd h
+All-beside P R Q f (x ∷ xs) [] all h = absurd h
+All-beside P R Q f (x ∷ xs) (y ∷ ys) all h = All-cons Q y ys (f x y (All-head P x xs all) h.0) (All-beside P R Q f xs ys (All-tail P x xs all) h.1)
 
 -- a list made of another contains what is made of the items, and nothing else
 pub Contains-map : {A B : Type 0} (f : A → B) (xs : List A) (x : A) → Contains xs x → Contains (map f xs) (f x)

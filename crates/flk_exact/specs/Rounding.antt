@@ -25,6 +25,18 @@ pub record IsRootFloor (v w : ℤ) : Type 0 where
   pub within : (w *ℤ w) ≤ℤ v
   pub greatest : v <ℤ ((w +ℤ pos 1) *ℤ (w +ℤ pos 1))
 
+-- w is the least whole number of 0 or more whose square is at least v
+pub record IsRootCeil (v w : ℤ) : Type 0 where
+  pub natural : pos 0 ≤ℤ w
+  pub within : v ≤ℤ (w *ℤ w)
+  pub least : (z : ℤ) → pos 0 ≤ℤ z → v ≤ℤ (z *ℤ z) → w ≤ℤ z
+
+-- w is the least whole number of 0 or more whose cube is at least v
+pub record IsCubeRootCeil (v w : ℤ) : Type 0 where
+  pub natural : pos 0 ≤ℤ w
+  pub within : v ≤ℤ (w *ℤ w *ℤ w)
+  pub least : (z : ℤ) → pos 0 ≤ℤ z → v ≤ℤ (z *ℤ z *ℤ z) → w ≤ℤ z
+
 -- z lies between two whole numbers
 pub record IsBetween (lo hi z : ℤ) : Type 0 where
   pub above : lo ≤ℤ z

@@ -16,5 +16,7 @@ pub use cut::{cuts_are_one_list, half_period_has_few_samples};
 pub use extreme::{greatest_is_one, least_is_one};
 pub use fraction::fractions_are_ordered;
 pub use half_period::{half_period_has_one_value, run_has_one_list_of_values};
-pub use rounding::{ceil_is_a_bracket, floor_is_a_bracket, root_is_one};
+pub use rounding::{
+    ceil_is_a_bracket, cube_root_up_is_one, floor_is_a_bracket, root_is_one, root_up_is_one,
+};
 pub use run::recorded_voltages_are_an_admitted_run;
