@@ -3,3 +3,4 @@ pub mod SizeLemmas
 pub mod ScaledLemmas
 pub mod RootLemmas
 pub mod QuotientLemmas
+pub mod IntervalLemmas

@@ -1,5 +1,5 @@
--- The least and the greatest size of an interval: the sizes of the voltages that it holds lie between them.
-use Rattle.std.proofs.Common.{ℕ, ◌*◌, ◌^◌, ◌<◌, ◌≤◌, max, ℤ, pos, ◌*ℤ◌, ◌≤ℤ◌, arith}
+-- The least and the greatest size of an interval: the sizes of the voltages that it holds lie between them, and how far they are apart.
+use Rattle.std.proofs.Common.{◌≡◌, ℕ, ◌+◌, ◌*◌, ◌^◌, ◌<◌, ◌≤◌, max, ℤ, pos, ◌+ℤ◌, ◌*ℤ◌, ◌≤ℤ◌, arith}
 use Rattle.std.specs.Prelude.{suc, negsuc}
 use Rattle.std.specs.Int.RustNames.{unsigned_abs}
 use Rattle.std.proofs.lemmas.Int.{ints}
@@ -34,3 +34,16 @@ pub sizes_ordered : (lo hi : ℤ) → least_size lo hi ≤ greatest_size lo hi
 sizes_ordered (pos a) hi = omega arith
 sizes_ordered (negsuc a) (pos b) = omega arith
 sizes_ordered (negsuc a) (negsuc b) = omega arith
+
+-- the greatest size is at most the least and the width, each times q
+pub sizes_apart : (lo hi : ℤ) (q t : ℕ) → lo ≤ℤ hi → (hi *ℤ pos q) ≤ℤ (lo *ℤ pos q +ℤ pos t) → greatest_size lo hi * q ≤ least_size lo hi * q + t
+sizes_apart (pos a) (pos b) q t o h =
+    let top : max a b ≡ b = omega (arith, ints) in
+    rw top (omega (arith, ints))
+sizes_apart (pos a) (negsuc b) q t o h = absurd (omega (arith, ints))
+sizes_apart (negsuc a) (pos b) q t o h =
+    let top : max (suc a) b ≤ suc a + b = omega arith in
+    omega (arith, ints, mul-le-mul_right q top)
+sizes_apart (negsuc a) (negsuc b) q t o h =
+    let top : max (suc a) (suc b) ≡ suc a = omega (arith, ints) in
+    rw top (omega (arith, ints))

@@ -1,3 +1,5 @@
 pub mod Interval
+pub mod Values
 pub mod Square
 pub mod Lamp
+pub mod Rate

@@ -1,7 +1,11 @@
 //! The two reference lamps, and the nominal periods that go with them.
 
 ghost use Rattle.std.specs.Prelude.{◌≡◌};
-ghost use Rattle.flk_num.specs.Lamp.{half_of, window_of, hertz_of};
+ghost use Rattle.flk_num.specs.Lamp.{window_of, hertz_of};
+ghost use Rattle.flk_num.specs.Rate.{half_at};
+ghost use Rattle.flk_num.specs.declared.rate.Rate.TheVariants as rates;
+
+use crate::rate::Rate;
 
 /// The reference lamp of the flickermeter of IEC 61000-4-15, with the nominal frequency of its supply.
 #[derive(Clone, Copy, Debug, PartialEq, Eq)]
@@ -15,11 +19,20 @@ pub enum Lamp {
 impl Lamp {
     /// The samples of half a nominal period at 2400 samples a second: 24 or 20.
     pub fn half(&self) -> usize
-        ensures { result ≡ half_of self.now }
+        ensures { result ≡ half_at self.now rates.R2400 }
     {
-        match self {
-            Lamp::L230 => 24,
-            Lamp::L120 => 20,
+        self.half_at(Rate::R2400)
+    }
+
+    /// The samples of half a nominal period: 24 or 20 at 2400 samples a second, 48 or 40 at 4800.
+    pub fn half_at(&self, rate: Rate) -> usize
+        ensures { result ≡ half_at self.now rate }
+    {
+        match (self, rate) {
+            (Lamp::L230, Rate::R2400) => 24,
+            (Lamp::L120, Rate::R2400) => 20,
+            (Lamp::L230, Rate::R4800) => 48,
+            (Lamp::L120, Rate::R4800) => 40,
         }
     }
 

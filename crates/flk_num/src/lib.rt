@@ -1,26 +1,30 @@
-//! Whole-number arithmetic of intervals: quotients rounded down and up, roots rounded down, and exact squares.
+//! Whole-number arithmetic of intervals: quotients and roots rounded down and up, cube roots rounded up, and exact squares.
 //!
 //! Every number is a whole number of some fixed unit, which the caller knows, and every call answers the stated rounding
 //! exactly. No such call takes memory or refuses anything.
 //!
-//! Three types that the crates above share stand here too: [`List`], [`Stop`] and [`Lamp`].
+//! Four types that the crates above share stand here too: [`List`], [`Stop`], [`Lamp`] and [`Rate`].
 #![tactic(auto)]
 
 mod interval;
 mod lamp;
 mod list;
 mod quotient;
+mod rate;
 mod root;
 mod square;
 mod stop;
+mod threads;
 
 pub use interval::Interval;
 pub use lamp::Lamp;
 pub use list::List;
 pub use quotient::{ceil_div, floor_div, quotient_out, scaled_ceil, scaled_floor};
-pub use root::root_floor;
-pub use square::square_out;
+pub use rate::Rate;
+pub use root::{cube_root_ceil, root_ceil, root_floor};
+pub use square::{Squares, exact_squares, square_out};
 pub use stop::Stop;
+pub use threads::crosses_threads;
 
 #[cfg(test)]
 mod tests;

@@ -1,7 +1,7 @@
-//! Roots, rounded down.
+//! Roots, rounded down and up.
 
-ghost use Rattle.std.specs.Prelude.{◌+◌, ◌*◌, ◌^◌, ◌<◌, ◌≤◌, pos, ◌≤ℤ◌, ◌<ℤ◌};
-ghost use Rattle.flk_exact.specs.Rounding.{IsRootFloor};
+ghost use Rattle.std.specs.Prelude.{◌≡◌, ℕ, ◌+◌, ◌*◌, ◌^◌, ◌<◌, ◌≤◌, pos, ◌≤ℤ◌, ◌<ℤ◌};
+ghost use Rattle.flk_exact.specs.Rounding.{IsRootFloor, IsRootCeil, IsCubeRootCeil};
 
 // A power of two above the root of `v`, and at most about twice as large.
 fn power_above(v: u64) -> u64
@@ -54,4 +54,55 @@ pub fn root_floor(v: i128) -> i128
         Ok(word) => i128::from(word_root(word)),
         Err(_) => v.isqrt(),
     }
+}
+
+/// The root of `v`, rounded up: the least whole number of 0 or more whose square is at least `v`, which is from 0 to below
+/// 2^126. `v` is in squares of the result's unit.
+pub fn root_ceil(v: i128) -> i128
+    requires low { pos 0 ≤ℤ v }
+    requires high { v <ℤ pos (2 ^ 126) }
+    ensures { IsRootCeil v result }
+{
+    let root = root_floor(v);
+    if root * root == v { root } else { root + 1 }
+}
+
+// 2^42: its cube is 2^126.
+const CUBE_ROOT_LIMIT: u64 = 4_398_046_511_104;
+
+fn cube(x: u64) -> u128
+    requires { x ≤ 2 ^ 42 }
+    ensures { result ≡ x * x * x }
+{
+    let x = u128::from(x);
+    x * x * x
+}
+
+// The cube root of `v`, rounded up. Each turn halves the numbers from which it is sought.
+fn natural_cube_root(v: u128) -> u64
+    requires { v ≤ 2 ^ 126 }
+    ensures reached { v ≤ result * result * result }
+    ensures least { (z : ℕ) → v ≤ z * z * z → result ≤ z }
+{
+    let mut low = 0;
+    let mut high = CUBE_ROOT_LIMIT;
+    while low < high {
+        let middle = (low + high) / 2;
+        if cube(middle) < v {
+            low = middle + 1;
+        } else {
+            high = middle;
+        }
+    }
+    high
+}
+
+/// The cube root of `v`, rounded up: the least whole number of 0 or more whose cube is at least `v`, which is from 0 to below
+/// 2^126. `v` is in cubes of the result's unit.
+pub fn cube_root_ceil(v: i128) -> i128
+    requires low { pos 0 ≤ℤ v }
+    requires high { v <ℤ pos (2 ^ 126) }
+    ensures { IsCubeRootCeil v result }
+{
+    i128::from(natural_cube_root(v.unsigned_abs()))
 }

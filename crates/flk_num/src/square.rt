@@ -1,8 +1,8 @@
 //! The squares of an interval.
 
-ghost use Rattle.std.specs.Prelude.{◌^◌, ◌<◌, pos, ◌*ℤ◌, ◌≤ℤ◌, ◌≡◌};
+ghost use Rattle.std.specs.Prelude.{ℕ, ◌*◌, ◌^◌, ◌<◌, ◌≤◌, pos, ◌*ℤ◌, ◌≤ℤ◌, ◌≡◌};
 ghost use Rattle.std.specs.Int.RustNames.{unsigned_abs};
-ghost use Rattle.flk_num.specs.Square.{AreSquares};
+ghost use Rattle.flk_num.specs.Square.{AreSquares, least_size, greatest_size};
 
 use crate::interval::Interval;
 
@@ -40,5 +40,30 @@ pub fn square_out(v: Interval) -> Interval
     Interval {
         lo: 0,
         hi: first.max(last),
+    }
+}
+
+/// Squares of whole numbers, or sums of them.
+#[derive(Clone, Copy, Debug, PartialEq, Eq)]
+pub struct Squares {
+    pub least: u128,
+    pub greatest: u128,
+}
+
+/// The least and the greatest square of a whole number of the interval `v`, in squares of its unit, as numbers
+/// without a sign. The ends of `v` are below 2^63 in size. Where they are at most n in size, the squares are at most
+/// `n^2`.
+pub fn exact_squares(v: Interval) -> Squares
+    requires low { unsigned_abs v.lo < 2 ^ 63 }
+    requires high { unsigned_abs v.hi < 2 ^ 63 }
+    ensures least { result.least ≡ least_size v.lo v.hi * least_size v.lo v.hi }
+    ensures greatest { result.greatest ≡ greatest_size v.lo v.hi * greatest_size v.lo v.hi }
+    ensures ordered { result.least ≤ result.greatest }
+    ensures small { (n : ℕ) → unsigned_abs v.lo ≤ n → unsigned_abs v.hi ≤ n → result.greatest ≤ n * n }
+{
+    let squares = square_out(v);
+    Squares {
+        least: squares.lo as u128,
+        greatest: squares.hi as u128,
     }
 }

@@ -1,7 +1,8 @@
 //! Values that were computed by long arithmetic elsewhere.
 
 use crate::{
-    Interval, ceil_div, floor_div, quotient_out, root_floor, scaled_ceil, scaled_floor, square_out,
+    Interval, Squares, ceil_div, cube_root_ceil, exact_squares, floor_div, quotient_out, root_ceil,
+    root_floor, scaled_ceil, scaled_floor, square_out,
 };
 
 #[test]
@@ -95,6 +96,32 @@ fn roots(rt: HostRuntime) {
 }
 
 #[test]
+fn roots_rounded_up(rt: HostRuntime) {
+    assert_eq!(rt; root_ceil(0), 0);
+    assert_eq!(rt; root_ceil(1), 1);
+    assert_eq!(rt; root_ceil(2), 2);
+    assert_eq!(rt; root_ceil(4), 2);
+    assert_eq!(rt; root_ceil(509_600_000_000_000_000), 713_862_732);
+    assert_eq!(rt;
+        root_ceil(85_070_591_730_234_615_865_843_651_857_942_052_863),
+        9_223_372_036_854_775_808
+    );
+    assert_eq!(rt; cube_root_ceil(0), 0);
+    assert_eq!(rt; cube_root_ceil(1), 1);
+    assert_eq!(rt; cube_root_ceil(2), 2);
+    assert_eq!(rt; cube_root_ceil(8), 2);
+    assert_eq!(rt; cube_root_ceil(9), 3);
+    assert_eq!(rt;
+        cube_root_ceil(1_000_000_000_000_000_000_000_000_000_000_000_000),
+        1_000_000_000_000
+    );
+    assert_eq!(rt;
+        cube_root_ceil(85_070_591_730_234_615_865_843_651_857_942_052_863),
+        4_398_046_511_104
+    );
+}
+
+#[test]
 fn squares(rt: HostRuntime) {
     assert_eq!(rt;
         square_out(Interval { lo: -3, hi: 2 }),
@@ -103,6 +130,13 @@ fn squares(rt: HostRuntime) {
     assert_eq!(rt;
         square_out(Interval { lo: -3, hi: -2 }),
         Interval { lo: 4, hi: 9 }
+    );
+    assert_eq!(rt;
+        exact_squares(Interval { lo: -3, hi: 2 }),
+        Squares {
+            least: 0,
+            greatest: 9
+        }
     );
     let high = 9_223_372_036_854_775_807;
     assert_eq!(rt;
