@@ -9,7 +9,7 @@ use Rattle.std.proofs.lemmas.Bool.{eqb-true, cases_lt}
 use Rattle.std.proofs.lemmas.List.Sums.{get_or-le-sum_by}
 use Rattle.flk_cert.specs.declared.certificate.CertRow.{CertRow}
 use Rattle.flk_cert.specs.declared.coefs.Coefs.{Coefs}
-use Rattle.flk_cert.specs.Certificate.{no_row, row_at, IsBound, IsInRange, HasCount, IsForm, HasShape, Contracts, IsCombined, HasIdentity}
+use Rattle.flk_cert.specs.Certificate.{no_row, row_at, IsBound, HasRanges, HasCount, HasForm, HasShape, Contracts, IsCombined, HasIdentity}
 use Rattle.flk_cert.specs.Judged.{IsJudged}
 use Rattle.flk_cert.proofs.StepLemmas.{row_at-past}
 
@@ -20,17 +20,17 @@ equal_bits a b f g =
 
 -- ---- the shape of a row
 
-pub first_shape : (k : Coefs) (rows : List CertRow) → IsInRange (row_at rows 0) → HasCount k rows → IsForm (pos (2 ^ 32)) (pos 0) (row_at rows 0) → HasShape k rows 0
+pub first_shape : (k : Coefs) (rows : List CertRow) → HasRanges (row_at rows 0) → HasCount k rows → HasForm (pos (2 ^ 32)) (pos 0) (row_at rows 0) → HasShape k rows 0
 first_shape k rows r c f = record { count = λ z. c; range = r; row_0 = λ z. f; row_1 = λ z. absurd (omega arith) }
 
-pub second_shape : (k : Coefs) (rows : List CertRow) (i : ℕ) → i ≡ 1 → IsInRange (row_at rows i) → IsForm (neg_ℤ k.a1) (pos (2 ^ 32)) (row_at rows i) → HasShape k rows i
+pub second_shape : (k : Coefs) (rows : List CertRow) (i : ℕ) → i ≡ 1 → HasRanges (row_at rows i) → HasForm (neg_ℤ k.a1) (pos (2 ^ 32)) (row_at rows i) → HasShape k rows i
 second_shape k rows i e r f =
-    record { count = λ z. absurd (omega arith); range = r; row_0 = λ z. absurd (omega arith); row_1 = λ o m. subst (λ (n : ℕ). IsForm (neg_ℤ k.a1) (pos (2 ^ 32)) (row_at rows n)) e f }
+    record { count = λ z. absurd (omega arith); range = r; row_0 = λ z. absurd (omega arith); row_1 = λ o m. subst (λ (n : ℕ). HasForm (neg_ℤ k.a1) (pos (2 ^ 32)) (row_at rows n)) e f }
 
-pub later_shape : (k : Coefs) (rows : List CertRow) (i : ℕ) → 1 < i → IsInRange (row_at rows i) → HasShape k rows i
+pub later_shape : (k : Coefs) (rows : List CertRow) (i : ℕ) → 1 < i → HasRanges (row_at rows i) → HasShape k rows i
 later_shape k rows i h r = record { count = λ z. absurd (omega arith); range = r; row_0 = λ z. absurd (omega arith); row_1 = λ o m. absurd (omega arith) }
 
-no_row_in_range : IsInRange no_row
+no_row_in_range : HasRanges no_row
 no_row_in_range =
     let zero : IsBound (pos 0) = record { natural = omega (arith, ints); small = omega (arith, ints) } in
     record { x = omega arith; y = omega arith; g = zero; h = zero }
@@ -40,7 +40,7 @@ pub shape_past : (k : Coefs) (rows : List CertRow) (i : ℕ) → 0 < i → lengt
 shape_past k rows i some past =
     record {
       count = λ z. absurd (omega arith);
-      range = subst IsInRange (sym (row_at-past rows i past)) no_row_in_range;
+      range = subst HasRanges (sym (row_at-past rows i past)) no_row_in_range;
       row_0 = λ z. absurd (omega arith);
       row_1 = λ o m. absurd (omega arith);
     }

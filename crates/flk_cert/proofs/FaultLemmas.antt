@@ -8,14 +8,14 @@ use Rattle.flk_cert.specs.declared.fault.Cause.{Cause}
 use Rattle.flk_cert.specs.declared.fault.Cause.TheVariants.{Shape, Contraction, Identity, Input, Rounding}
 use Rattle.flk_cert.specs.declared.fault.CertFault.{CertFault}
 use Rattle.flk_cert.specs.Cause.{cause_number}
-use Rattle.flk_cert.specs.Certificate.{HasIdentity, CoversInput, Meets, Fits, pass, IsEarlier, IsFirstFault}
+use Rattle.flk_cert.specs.Certificate.{HasIdentity, CoversInput, Meets, FitsSection, pass, IsEarlier, IsFirstUnmet}
 use Rattle.flk_cert.specs.Judged.{IsJudged, AllAreMet, IsFirstOnRow}
 
-pub fits_has_no_fault : (k : Coefs) (rows : List CertRow) (cause : Cause) (i : ℕ) → Fits k rows → IsFirstFault k rows cause i → ⊥
+pub fits_has_no_fault : (k : Coefs) (rows : List CertRow) (cause : Cause) (i : ℕ) → FitsSection k rows → IsFirstUnmet k rows cause i → ⊥
 fits_has_no_fault k rows cause i fits f = f.fails (fits cause i)
 
 -- of two that fail none is earlier
-not_earlier : (k : Coefs) (rows : List CertRow) (c d : Cause) (i j : ℕ) → IsFirstFault k rows c i → IsFirstFault k rows d j → IsEarlier c i d j → ⊥
+not_earlier : (k : Coefs) (rows : List CertRow) (c d : Cause) (i j : ℕ) → IsFirstUnmet k rows c i → IsFirstUnmet k rows d j → IsEarlier c i d j → ⊥
 not_earlier k rows c d i j f g e = f.fails (g.first c i e)
 
 earlier_pass : (c d : Cause) (i j : ℕ) → pass c < pass d → IsEarlier c i d j
@@ -27,7 +27,7 @@ earlier_row c d i j p h = record { is = inr (p, inl h) }
 earlier_number : (c d : Cause) (i j : ℕ) → pass c ≡ pass d → i ≡ j → cause_number c < cause_number d → IsEarlier c i d j
 earlier_number c d i j p e h = record { is = inr (p, inr (e, h)) }
 
-pub first_fault_unique : (k : Coefs) (rows : List CertRow) (c d : Cause) (i j : ℕ) → IsFirstFault k rows c i → IsFirstFault k rows d j → (i ≡ j) × (cause_number c ≡ cause_number d)
+pub first_fault_unique : (k : Coefs) (rows : List CertRow) (c d : Cause) (i j : ℕ) → IsFirstUnmet k rows c i → IsFirstUnmet k rows d j → (i ≡ j) × (cause_number c ≡ cause_number d)
 first_fault_unique k rows c d i j f g =
     let p : pass c ≡ pass d =
     neither_less (pass c) (pass d) (λ l. not_earlier k rows c d i j f g (earlier_pass c d i j l)) (λ l. not_earlier k rows d c j i g f (earlier_pass d c j i l)) in
@@ -78,14 +78,14 @@ before_rounding k rows i j0 before id inp Input j e = λ w. until (CoversInput k
 before_rounding k rows i j0 before id inp Rounding j e = λ w. (before j (strictly Rounding Rounding j i (omega arith) (omega arith) e)).rounding
 
 pub row_fault : (k : Coefs) (rows : List CertRow) (cause : Cause) (i : ℕ) → IsJudged k rows → i < length rows → ((j : ℕ) → j < i → AllAreMet k rows j) → IsFirstOnRow k rows cause i
-    → IsFirstFault k rows cause i
+    → IsFirstUnmet k rows cause i
 row_fault k rows Shape i j0 within before f = absurd f
 row_fault k rows Contraction i j0 within before f = absurd f
 row_fault k rows Identity i j0 within before f = record { fails = λ m. f (m within); first = before_identity k rows i j0 before }
 row_fault k rows Input i j0 within before f = record { fails = λ m. f.1 (m within); first = before_input k rows i j0 before f.0 }
 row_fault k rows Rounding i j0 within before f = record { fails = λ m. f.2 (m within); first = before_rounding k rows i j0 before f.0 f.1 }
 
-pub all_fit : (k : Coefs) (rows : List CertRow) → IsJudged k rows → ((j : ℕ) → j < length rows → AllAreMet k rows j) → Fits k rows
+pub all_fit : (k : Coefs) (rows : List CertRow) → IsJudged k rows → ((j : ℕ) → j < length rows → AllAreMet k rows j) → FitsSection k rows
 all_fit k rows j0 met Shape i = j0.shape i
 all_fit k rows j0 met Contraction i = λ last. j0.contraction
 all_fit k rows j0 met Identity i = λ w. (met i w).identity
@@ -122,15 +122,15 @@ abbrev refused : {T : Type 0} → ℕ → ℕ → Result T CertFault
 refused row kind = Err (record { row = row; kind = kind })
 
 -- an answer that names the first fault names no other
-pub answer_is_first : {T : Type 0} (k : Coefs) (rows : List CertRow) (given : Cause) (place number : ℕ) → number ≡ cause_number given → IsFirstFault k rows given place
-    → (cause : Cause) (row : ℕ) → IsErrOf {T = T} {E = CertFault} (Err (record { row = place; kind = number })) (record { row = row; kind = cause_number cause }) ↔ IsFirstFault k rows cause row
+pub answer_is_first : {T : Type 0} (k : Coefs) (rows : List CertRow) (given : Cause) (place number : ℕ) → number ≡ cause_number given → IsFirstUnmet k rows given place
+    → (cause : Cause) (row : ℕ) → IsErrOf {T = T} {E = CertFault} (Err (record { row = place; kind = number })) (record { row = row; kind = cause_number cause }) ↔ IsFirstUnmet k rows cause row
 answer_is_first {T} k rows given place number e first cause row = (
   λ same.
       let fault = ap (λ (r : Result T CertFault). fault_in r) same in
       let kind : number ≡ cause_number cause = ap (λ (f : CertFault). f.kind) fault in
       let at_row : place ≡ row = ap (λ (f : CertFault). f.row) fault in
-      let of_cause = subst (λ (d : Cause). IsFirstFault k rows d place) (same_cause given cause (sym e ∙ kind)) first in
-      subst (λ (n : ℕ). IsFirstFault k rows cause n) at_row of_cause,
+      let of_cause = subst (λ (d : Cause). IsFirstUnmet k rows d place) (same_cause given cause (sym e ∙ kind)) first in
+      subst (λ (n : ℕ). IsFirstUnmet k rows cause n) at_row of_cause,
   λ other.
       let same = first_fault_unique k rows given cause place row first other in
       let kind : number ≡ cause_number cause = e ∙ same.1 in

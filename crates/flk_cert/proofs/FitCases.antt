@@ -12,7 +12,7 @@ use Rattle.flk_cert.specs.declared.certificate.CertRow.{CertRow}
 use Rattle.flk_cert.specs.declared.gain.Gain.{Gain}
 use Rattle.flk_cert.specs.declared.fault.Cause.TheVariants.{Shape, Contraction, Identity, Input, Rounding}
 use Rattle.flk_cert.specs.Row.{fed_back, input_share, rounding_share}
-use Rattle.flk_cert.specs.Certificate.{row_at, IsBound, IsInRange, HasCount, IsForm, HasShape, Contracts, IsCombined, HasIdentity, Covers, Fits}
+use Rattle.flk_cert.specs.Certificate.{row_at, IsBound, HasRanges, HasCount, HasForm, HasShape, Contracts, IsCombined, HasIdentity, Covers, FitsSection}
 use Rattle.flk_cert.specs.Judged.{AllAreMet}
 use Rattle.flk_cert.specs.Gain.{IsGainOf}
 use Rattle.flk_cert.proofs.CheckLemmas.{shape_past}
@@ -90,7 +90,7 @@ places P each (suc n) =
 bound_cases : (g : ℤ) → IsDecided (IsBound g)
 bound_cases g = alike (λ h. record { natural = h.0; small = h.1 }) (λ b. (b.natural, b.small)) (both (at_most_cases (pos 0) g) (less_cases g (pos (2 ^ 60))))
 
-range_cases : (r : CertRow) → IsDecided (IsInRange r)
+range_cases : (r : CertRow) → IsDecided (HasRanges r)
 range_cases r =
     alike (λ h. record { x = h.0; y = h.1.0; g = h.1.1.0; h = h.1.1.1 }) (λ s. (s.x, (s.y, (s.g, s.h))))
     (both (below_cases (unsigned_abs r.x) (2 ^ 44)) (both (below_cases (unsigned_abs r.y) (2 ^ 44)) (both (bound_cases r.g) (bound_cases r.h))))
@@ -100,7 +100,7 @@ count_cases k rows =
     alike (λ h. record { some = h.0; few = h.1.0; single = h.1.1 }) (λ c. (c.some, (c.few, c.single)))
     (both (below_cases 0 (length rows)) (both (within_cases (length rows) 4096) (where_so (cases_eq (length rows) 1) (both (equal_cases k.b2 (pos 0)) (equal_cases k.a2 (pos 0))))))
 
-form_cases : (x y : ℤ) (r : CertRow) → IsDecided (IsForm x y r)
+form_cases : (x y : ℤ) (r : CertRow) → IsDecided (HasForm x y r)
 form_cases x y r = alike (λ h. record { first = h.0; second = h.1 }) (λ f. (f.first, f.second)) (both (equal_cases r.x x) (equal_cases r.y y))
 
 shape_cases : (k : Coefs) (rows : List CertRow) (i : ℕ) → IsDecided (HasShape k rows i)
@@ -154,13 +154,13 @@ met_cases k rows i =
 -- ---- the certificate
 
 -- all conditions, as they are asked
-judged_of : (k : Coefs) (rows : List CertRow) → Fits k rows → 0 < length rows → Contracts rows
+judged_of : (k : Coefs) (rows : List CertRow) → FitsSection k rows → 0 < length rows → Contracts rows
 judged_of k rows fits some = fits Contraction (length rows - 1) (omega (arith, some))
 
-met_of : (k : Coefs) (rows : List CertRow) → Fits k rows → (i : ℕ) → i < length rows → AllAreMet k rows i
+met_of : (k : Coefs) (rows : List CertRow) → FitsSection k rows → (i : ℕ) → i < length rows → AllAreMet k rows i
 met_of k rows fits i less = record { identity = fits Identity i less; input = fits Input i less; rounding = fits Rounding i less }
 
-pub fit_cases : (k : Coefs) (rows : List CertRow) → Fits k rows ⊎ (Fits k rows → ⊥)
+pub fit_cases : (k : Coefs) (rows : List CertRow) → FitsSection k rows ⊎ (FitsSection k rows → ⊥)
 fit_cases k rows =
     elim (shapes_cases k rows) [
       | inr never ↦ inr (λ fits. never (fits Shape))
@@ -175,11 +175,12 @@ fit_cases k rows =
 
 -- ---- its gain
 
-pub gain_exists : (k : Coefs) (rows : List CertRow) → Fits k rows → (gain : Gain) × IsGainOf k rows gain
+pub gain_exists : (k : Coefs) (rows : List CertRow) → FitsSection k rows → (gain : Gain) × IsGainOf k rows gain
 gain_exists k rows fits =
     let first = row_at rows 0 in
     let second = row_at rows 1 in
-    let own : IsInRange (row_at rows 0) = (fits Shape 0).range in
+    let own : HasRanges (row_at rows 0) = (fits Shape 0).range in
+    let next : HasRanges (row_at rows 1) = (fits Shape 1).range in
     let input = pos (unsigned_abs k.b0) +ℤ first.g in
     let rounding = pos 1 +ℤ ceil_of first.h (pos (2 ^ 32)) in
     let above : first.h ≤ℤ (ceil_of first.h (pos (2 ^ 32)) *ℤ pos (2 ^ 32)) = (IsCeil-at first.h (pos (2 ^ 32)) (ceil_of first.h (pos (2 ^ 32))) (omega (arith, ints)) refl).within in
@@ -196,9 +197,15 @@ gain_exists k rows fits =
       input_natural = omega (arith, ints, own.g.natural);
       rounding_natural = omega (arith, ints, own.h.natural, above);
       rounding_small = small;
+      first_input_limits = own.g;
+      first_rounding_limits = own.h;
+      second_input_limits = next.g;
+      second_rounding_limits = next.h;
       bounds = fits_bounds k rows input rounding fits refl refl;
       bounds_first = fits_bounds_first k rows fits;
       bounds_second = fits_bounds_second k rows fits;
       keeps_second = fits_keeps_second k rows fits;
-    } in
-    (gain, record { coefs = refl; input = refl; rounding = refl })
+    } in (
+      gain,
+      record { coefs = refl; input = refl; rounding = refl; first_input = refl; first_rounding = refl; second_input = refl; second_rounding = refl },
+    )

@@ -9,7 +9,7 @@ use Rattle.flk_exact.proofs.RoundingLemmas.{IsCeil-at}
 use Rattle.flk_cert.specs.declared.coefs.Coefs.{Coefs}
 use Rattle.flk_cert.specs.declared.certificate.CertRow.{CertRow}
 use Rattle.flk_cert.specs.declared.row.Form.{Form}
-use Rattle.flk_cert.specs.Make.{form_of, inner_row, last_row, inner_rows, rows_of, weight, IsContracted, IsLarge, MayEnd, IsCount, input_of, rounding_of, limit, bounded_by, bounded, IsFirstOrder, IsOneBound, one_plain, IsOneRow, IsMade}
+use Rattle.flk_cert.specs.Make.{form_of, inner_row, last_row, inner_rows, rows_of, weight, IsContracted, IsLarge, MayEnd, IsCount, input_share_at, rounding_share_at, limit, bounded_by, bounded, IsFirstOrder, IsOneBound, one_plain, IsOneRow, IsMade}
 use Rattle.flk_cert.proofs.MakeLemmas.{one_bound_is, one_row_is, order_cases}
 
 -- ---- a section of first order
@@ -27,10 +27,10 @@ bound_exists c share =
 one_row_exists : (k : Coefs) → (r : CertRow) × IsOneRow k r
 one_row_exists k =
     let p = one_plain k in
-    let g = bound_exists p.c (input_of k p) in
-    let h = bound_exists p.c (rounding_of k p) in
+    let g = bound_exists p.c (input_share_at k p) in
+    let h = bound_exists p.c (rounding_share_at k p) in
     let r : CertRow = record (one_plain k) { g = g.0; h = h.0 } in
-    (r, one_row_is k p r (pos (input_of k p)) (pos (rounding_of k p)) g.0 h.0 refl refl refl refl g.1 h.1)
+    (r, one_row_is k p r (pos (input_share_at k p)) (pos (rounding_share_at k p)) g.0 h.0 refl refl refl refl g.1 h.1)
 
 -- ---- how many rows another has
 
@@ -102,7 +102,7 @@ length-bounded_by k input rounding [] = refl
 length-bounded_by k input rounding (r ∷ rs) = ap suc (length-bounded_by k input rounding rs)
 
 length-bounded : (k : Coefs) (rows : List CertRow) → length (bounded k rows) ≡ length rows
-length-bounded k rows = length-bounded_by k (limit (input_of k) rows) (limit (rounding_of k) rows) rows
+length-bounded k rows = length-bounded_by k (limit (input_share_at k) rows) (limit (rounding_share_at k) rows) rows
 
 -- ---- the certificate
 

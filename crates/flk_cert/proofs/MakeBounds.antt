@@ -8,8 +8,9 @@ use Rattle.flk_exact.specs.Rounding.{ceil_of}
 use Rattle.flk_cert.specs.declared.coefs.Coefs.{Coefs}
 use Rattle.flk_cert.specs.declared.certificate.CertRow.{CertRow}
 use Rattle.flk_cert.specs.Certificate.{no_row}
-use Rattle.flk_cert.specs.Make.{weight, input_of, rounding_of, total_share, bound, bounded_by, IsNarrow}
-use Rattle.flk_cert.specs.Row.{IsWithin}
+use Rattle.flk_cert.specs.Make.{weight, input_share_at, rounding_share_at, total_share, bound, bounded_by}
+use Rattle.flk_cert.specs.Making.{IsLightRow}
+use Rattle.flk_cert.specs.Row.{IsUpTo}
 
 pub total_share_step : (share : CertRow → ℕ) (rows : List CertRow) (i : ℕ) (d : CertRow) (p s : ℤ) → i < length rows → p ≡ ceil_of s (pos (2 ^ 64)) → s ≡ pos (share (get_or rows i d))
     → total_share share (drop i rows) ≡ p +ℤ total_share share (drop (i + 1) rows)
@@ -29,15 +30,15 @@ row_as_it_was k input rounding old rows i d low e =
     ap (λ xs. get_or xs i d) e ∙ get_or_append_left (take (i + 1) old) (bounded_by k input rounding (drop (i + 1) old)) d i (omega arith) ∙ get_or-take (i + 1) old i d (omega arith)
 
 -- and so it is narrow, where all were
-pub narrow_before : (k : Coefs) (input rounding : ℤ) (old rows : List CertRow) (left : ℕ) → 0 < left → left ≤ length old → rows ≡ take left old ++ bounded_by k input rounding (drop left old) → All IsNarrow old → IsNarrow (get_or rows (left - 1) no_row)
+pub narrow_before : (k : Coefs) (input rounding : ℤ) (old rows : List CertRow) (left : ℕ) → 0 < left → left ≤ length old → rows ≡ take left old ++ bounded_by k input rounding (drop left old) → All IsLightRow old → IsLightRow (get_or rows (left - 1) no_row)
 narrow_before k input rounding old rows left some low e all =
     let next : left - 1 + 1 ≡ left = omega arith in
-    let h : IsNarrow (get_or old (left - 1) no_row) = All-get_or IsNarrow old (left - 1) no_row (omega arith) all in
+    let h : IsLightRow (get_or old (left - 1) no_row) = All-get_or IsLightRow old (left - 1) no_row (omega arith) all in
     rw (row_as_it_was k input rounding old rows (left - 1) no_row (omega arith) (rw next e)) h
 
 -- one row more has its bounds
 pub bounded_more : (k : Coefs) (input rounding : ℤ) (old rows : List CertRow) (i : ℕ) (d : CertRow) (g h : ℤ) (r : CertRow) → i < length old → rows ≡ take (i + 1) old ++ bounded_by k input rounding (drop (i + 1) old)
-    → g ≡ bound (input_of k) input (drop i old) → h ≡ bound (rounding_of k) rounding (drop i old) → r ≡ record (get_or rows i d) { g = g; h = h }
+    → g ≡ bound (input_share_at k) input (drop i old) → h ≡ bound (rounding_share_at k) rounding (drop i old) → r ≡ record (get_or rows i d) { g = g; h = h }
     → set rows i r ≡ take i old ++ bounded_by k input rounding (drop i old)
 bounded_more k input rounding old rows i d g h r low e eg eh er =
     let x = get_or old i d in
@@ -46,15 +47,15 @@ bounded_more k input rounding old rows i d g h r low e eg eh er =
     let split : rows ≡ take i old ++ x ∷ bounded_by k input rounding (drop (i + 1) old) =
     e ∙ ap (λ xs. xs ++ bounded_by k input rounding (drop (i + 1) old)) (take_more old i d low) ∙ append_assoc (take i old) (x ∷ []) (bounded_by k input rounding (drop (i + 1) old)) in
     let few : length (take i old) ≡ i = length-take-le i old (omega arith) in
-    let ng : g ≡ bound (input_of k) input (x ∷ drop (i + 1) old) = eg ∙ ap (bound (input_of k) input) first in
-    let nh : h ≡ bound (rounding_of k) rounding (x ∷ drop (i + 1) old) = eh ∙ ap (bound (rounding_of k) rounding) first in
-    let row : r ≡ record x { g = bound (input_of k) input (x ∷ drop (i + 1) old); h = bound (rounding_of k) rounding (x ∷ drop (i + 1) old) } =
+    let ng : g ≡ bound (input_share_at k) input (x ∷ drop (i + 1) old) = eg ∙ ap (bound (input_share_at k) input) first in
+    let nh : h ≡ bound (rounding_share_at k) rounding (x ∷ drop (i + 1) old) = eh ∙ ap (bound (rounding_share_at k) rounding) first in
+    let row : r ≡ record x { g = bound (input_share_at k) input (x ∷ drop (i + 1) old); h = bound (rounding_share_at k) rounding (x ∷ drop (i + 1) old) } =
     rw (er, was, ng, nh) refl in
     ap (λ xs. set xs i r) split ∙ set_at (take i old) x (bounded_by k input rounding (drop (i + 1) old)) r i few
     ∙ ap (λ y. take i old ++ y ∷ bounded_by k input rounding (drop (i + 1) old)) row
     ∙ ap (λ ys. take i old ++ bounded_by k input rounding ys) (sym first)
 
-pub within_more : (g p : ℤ) (rows left most : ℕ) → 0 < left → left ≤ rows → IsWithin ((rows - left) * most) g → IsWithin most p → IsWithin ((rows - (left - 1)) * most) (g +ℤ p)
+pub within_more : (g p : ℤ) (rows left most : ℕ) → 0 < left → left ≤ rows → IsUpTo ((rows - left) * most) g → IsUpTo most p → IsUpTo ((rows - (left - 1)) * most) (g +ℤ p)
 within_more g p rows left most some low a b =
     let e : rows - (left - 1) ≡ (rows - left) + 1 = omega arith in
     record { low = omega (arith, ints, a.low, b.low); high = rw e (omega (arith, ints, a.high, b.high)) }

@@ -17,7 +17,7 @@ use Rattle.flk_cert.specs.declared.coefs.Coefs.{Coefs}
 use Rattle.flk_cert.specs.declared.certificate.CertRow.{CertRow}
 use Rattle.flk_cert.specs.declared.row.Form.{Form}
 use Rattle.flk_cert.specs.Row.{fed_back}
-use Rattle.flk_cert.specs.Make.{next_form, inner_row, last_row, weight, input_of, rounding_of, rows_of, bounded, IsContracted, IsCount, IsFirstOrder, one_plain, IsOneBound, IsOneRow, IsMade}
+use Rattle.flk_cert.specs.Make.{next_form, inner_row, last_row, weight, input_share_at, rounding_share_at, rows_of, bounded, IsContracted, IsCount, IsFirstOrder, one_plain, IsOneBound, IsOneRow, IsMade}
 
 pub fed_back_is : (z p r a x b y : ℤ) → z ≡ (pos 0 -ℤ p) -ℤ r → p ≡ a *ℤ x → r ≡ b *ℤ y → z ≡ neg_ℤ (a *ℤ x) -ℤ b *ℤ y
 fed_back_is z p r a x b y e f g = omega (arith, lin)
@@ -59,11 +59,11 @@ difference_fits p r h k = omega (arith, ints)
 -- ---- shares
 
 pub input_size_is : (k : Coefs) (r : CertRow) (z p q u w : ℤ) → z ≡ pos (unsigned_abs (p +ℤ q)) → p ≡ r.x *ℤ u → q ≡ r.y *ℤ w
-    → u ≡ pos (2 ^ 32) *ℤ k.b1 -ℤ k.a1 *ℤ k.b0 → w ≡ pos (2 ^ 32) *ℤ k.b2 -ℤ k.a2 *ℤ k.b0 → z ≡ pos (input_of k r)
+    → u ≡ pos (2 ^ 32) *ℤ k.b1 -ℤ k.a1 *ℤ k.b0 → w ≡ pos (2 ^ 32) *ℤ k.b2 -ℤ k.a2 *ℤ k.b0 → z ≡ pos (input_share_at k r)
 input_size_is k r z p q u w e f g h i = rw (e, f, g, h, i) refl
 
 pub rounding_total_is : (k : Coefs) (r : CertRow) (z b t v : ℤ) → z ≡ pos (2 ^ 32) *ℤ b +ℤ pos (2 ^ 64) *ℤ t → b ≡ pos (unsigned_abs v) → v ≡ fed_back k r.x r.y
-    → t ≡ pos (unsigned_abs r.x + unsigned_abs r.y) → z ≡ pos (rounding_of k r)
+    → t ≡ pos (unsigned_abs r.x + unsigned_abs r.y) → z ≡ pos (rounding_share_at k r)
 rounding_total_is k r z b t v e f g h =
     let same : unsigned_abs v ≡ unsigned_abs (k.a1 *ℤ r.x +ℤ k.a2 *ℤ r.y) = rw g (omega (arith, lin)) in
     omega (arith, ints, e, f, same, h)
@@ -94,7 +94,7 @@ bound_at_most c share g h p q =
 bound_unique : (c : ℤ) (share : ℕ) (g h : ℤ) → IsOneBound c share g → IsOneBound c share h → g ≡ h
 bound_unique c share g h p q = omega (arith, ints, bound_at_most c share g h p q, bound_at_most c share h g q p)
 
-pub one_row_is : (k : Coefs) (p r : CertRow) (s t g h : ℤ) → p ≡ one_plain k → r ≡ record p { g = g; h = h } → s ≡ pos (input_of k p) → t ≡ pos (rounding_of k p)
+pub one_row_is : (k : Coefs) (p r : CertRow) (s t g h : ℤ) → p ≡ one_plain k → r ≡ record p { g = g; h = h } → s ≡ pos (input_share_at k p) → t ≡ pos (rounding_share_at k p)
     → IsOneBound p.c (unsigned_abs s) g → IsOneBound p.c (unsigned_abs t) h → IsOneRow k r
 one_row_is k p r s t g h plain row share other low high =
     let g_is : r.g ≡ g = ap (λ z. z.g) row in
@@ -102,8 +102,8 @@ one_row_is k p r s t g h plain row share other low high =
     let c : r.c ≡ p.c = ap (λ z. z.c) row in
     let x : r.x ≡ p.x = ap (λ z. z.x) row in
     let y : r.y ≡ p.y = ap (λ z. z.y) row in
-    let a : input_of k r ≡ unsigned_abs s = rw (x, y, share) refl in
-    let b : rounding_of k r ≡ unsigned_abs t = rw (x, y, other) refl in
+    let a : input_share_at k r ≡ unsigned_abs s = rw (x, y, share) refl in
+    let b : rounding_share_at k r ≡ unsigned_abs t = rw (x, y, other) refl in
     record { plain = rw (row, plain) refl; g = rw (a, c, g_is) low; h = rw (b, c, h_is) high }
 
 one_row_unique : (k : Coefs) (r s : CertRow) → IsOneRow k r → IsOneRow k s → r ≡ s
@@ -111,10 +111,10 @@ one_row_unique k r s p q =
     let x : r.x ≡ s.x = ap (λ z. z.x) p.plain ∙ sym (ap (λ z. z.x) q.plain) in
     let y : r.y ≡ s.y = ap (λ z. z.y) p.plain ∙ sym (ap (λ z. z.y) q.plain) in
     let c : r.c ≡ s.c = ap (λ z. z.c) p.plain ∙ sym (ap (λ z. z.c) q.plain) in
-    let g : IsOneBound s.c (input_of k s) r.g = rw (← c, ← x, ← y) p.g in
-    let h : IsOneBound s.c (rounding_of k s) r.h = rw (← c, ← x, ← y) p.h in
-    let same_g = bound_unique s.c (input_of k s) r.g s.g g q.g in
-    let same_h = bound_unique s.c (rounding_of k s) r.h s.h h q.h in
+    let g : IsOneBound s.c (input_share_at k s) r.g = rw (← c, ← x, ← y) p.g in
+    let h : IsOneBound s.c (rounding_share_at k s) r.h = rw (← c, ← x, ← y) p.h in
+    let same_g = bound_unique s.c (input_share_at k s) r.g s.g g q.g in
+    let same_h = bound_unique s.c (rounding_share_at k s) r.h s.h h q.h in
     let middle : record (one_plain k) { g = r.g; h = r.h } ≡ record (one_plain k) { g = s.g; h = s.h } = rw (same_g, same_h) refl in
     p.plain ∙ middle ∙ sym q.plain
 

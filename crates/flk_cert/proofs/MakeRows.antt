@@ -10,7 +10,8 @@ use Rattle.std.proofs.lemmas.List.Sums.{sum_by_push}
 use Rattle.flk_cert.specs.declared.coefs.Coefs.{Coefs}
 use Rattle.flk_cert.specs.declared.certificate.CertRow.{CertRow}
 use Rattle.flk_cert.specs.declared.row.Form.{Form}
-use Rattle.flk_cert.specs.Make.{next_form, form_of, inner_row, last_row, inner_rows, rows_of, weight, IsLarge, IsContracted, MayEnd, IsCount, IsNarrow, EndsWith, IsBegun, IsPlain}
+use Rattle.flk_cert.specs.Make.{next_form, form_of, inner_row, last_row, inner_rows, rows_of, weight, IsLarge, IsContracted, MayEnd, IsCount}
+use Rattle.flk_cert.specs.Making.{IsLightRow, MayEndWith, IsBegun, IsPlain}
 
 -- the rows that are begun, with the last one
 with_last : (k : Coefs) (rows : List CertRow) (f : Form) (t : ℕ) → IsBegun k rows f t → rows_of k (length rows + 1) ≡ rows ++ last_row k f ∷ []
@@ -27,20 +28,20 @@ contracted_is k rows f t b =
     let e = last_weight k rows f t b in
     (λ h. omega (arith, e, h), λ h. omega (arith, e, h))
 
-ends_may : (k : Coefs) (rows : List CertRow) (f : Form) (t : ℕ) → IsBegun k rows f t → EndsWith k (length rows) f t → MayEnd k (length rows + 1)
+ends_may : (k : Coefs) (rows : List CertRow) (f : Form) (t : ℕ) → IsBegun k rows f t → MayEndWith k (length rows) f t → MayEnd k (length rows + 1)
 ends_may k rows f t b h =
     let e : length rows + 1 - 1 ≡ length rows = omega arith in
     ⊎_elim (λ light. inl ((contracted_is k rows f t b).1 light))
     (λ rest. ⊎_elim (λ large. inr (inl (let l : IsLarge (form_of k (length rows)) = rw (← b.form) large in rw e l))) (λ all. inr (inr (omega (arith, all)))) rest) h
 
-may_ends : (k : Coefs) (rows : List CertRow) (f : Form) (t : ℕ) → IsBegun k rows f t → MayEnd k (length rows + 1) → EndsWith k (length rows) f t
+may_ends : (k : Coefs) (rows : List CertRow) (f : Form) (t : ℕ) → IsBegun k rows f t → MayEnd k (length rows + 1) → MayEndWith k (length rows) f t
 may_ends k rows f t b h =
     let e : length rows + 1 - 1 ≡ length rows = omega arith in
     ⊎_elim (λ light. inl ((contracted_is k rows f t b).0 light))
     (λ rest. ⊎_elim (λ large. inr (inl (let l : IsLarge (form_of k (length rows)) = rw e at large in rw b.form l))) (λ all. inr (inr (omega (arith, all)))) rest) h
 
 -- a form that another follows has small numbers
-pub small_form : (k : Coefs) (rows : List CertRow) (f : Form) (t : ℕ) → IsBegun k rows f t → ¬ ((0 < length rows) × EndsWith k (length rows) f t) → unsigned_abs f.x < 2 ^ 44
+pub small_form : (k : Coefs) (rows : List CertRow) (f : Form) (t : ℕ) → IsBegun k rows f t → ¬ ((0 < length rows) × MayEndWith k (length rows) f t) → unsigned_abs f.x < 2 ^ 44
 small_form k rows f t b going =
     ⊎_elim
     (λ some. ⊎_elim (λ less. less) (λ large. absurd (going (some, inr (inl (inl large))))) (cases_lt (unsigned_abs f.x) (2 ^ 44)))
@@ -51,7 +52,7 @@ small_form k rows f t b going =
     (cases_lt 0 (length rows))
 
 -- one row more, which another follows
-pub IsBegun-push : (k : Coefs) (rows new : List CertRow) (f n : Form) (t w : ℕ) (r : CertRow) → IsBegun k rows f t → ¬ ((0 < length rows) × EndsWith k (length rows) f t) → n ≡ next_form k f → unsigned_abs n.x ≤ 2 ^ 46
+pub IsBegun-push : (k : Coefs) (rows new : List CertRow) (f n : Form) (t w : ℕ) (r : CertRow) → IsBegun k rows f t → ¬ ((0 < length rows) × MayEndWith k (length rows) f t) → n ≡ next_form k f → unsigned_abs n.x ≤ 2 ^ 46
     → r ≡ inner_row k f → weight r < 2 ^ 32 → w ≡ weight r → new ≡ rows ++ r ∷ [] → IsBegun k new n (t + w)
 IsBegun-push k rows new f n t w r b going next x row light weigh all =
     let more : length new ≡ suc (length rows) = omega (arith, ap length all, length_push rows r) in
@@ -62,7 +63,7 @@ IsBegun-push k rows new f n t w r b going next x row light weigh all =
     let rx : r.x ≡ f.x = ap (λ s. s.x) row in
     let ry : r.y ≡ f.y = ap (λ s. s.y) row in
     let ny : n.y ≡ f.x = ap (λ m. m.y) next in
-    let narrow : IsNarrow r = record { x = omega (arith, ap unsigned_abs rx); y = omega (arith, ap unsigned_abs ry, b.y); weight = omega arith } in
+    let narrow : IsLightRow r = record { x = omega (arith, ap unsigned_abs rx); y = omega (arith, ap unsigned_abs ry, b.y); weight = omega arith } in
     let part : inner_row k (form_of k (length rows)) ≡ r = rw (← b.form) (sym row) in
     let inner : new ≡ inner_rows k (suc (length rows)) = all ∙ ap (λ xs. xs ++ r ∷ []) b.inner ∙ ap (λ s. inner_rows k (length rows) ++ s ∷ []) (sym part) in
     let form : n ≡ form_of k (suc (length rows)) = next ∙ ap (next_form k) b.form in
@@ -74,7 +75,7 @@ IsBegun-push k rows new f n t w r b going next x row light weigh all =
       light = omega (arith, b.light);
       x = x;
       y = omega (arith, ap unsigned_abs ny);
-      narrow = rw all (All-push IsNarrow rows r b.narrow narrow);
+      narrow = rw all (All-push IsLightRow rows r b.narrow narrow);
       going = λ m two most ends.
           ⊎_elim (λ low. b.going m two (omega arith) ends)
           (λ high.
@@ -99,7 +100,7 @@ IsBegun-none k =
     }
 
 -- all rows, with the last one
-pub IsPlain-last : (k : Coefs) (rows new : List CertRow) (f : Form) (t : ℕ) (r : CertRow) (contracted : Bool) → IsBegun k rows f t → (0 < length rows) × EndsWith k (length rows) f t → (IsTrue contracted ↔ (t + weight (last_row k f) ≤ 2 ^ 58))
+pub IsPlain-last : (k : Coefs) (rows new : List CertRow) (f : Form) (t : ℕ) (r : CertRow) (contracted : Bool) → IsBegun k rows f t → (0 < length rows) × MayEndWith k (length rows) f t → (IsTrue contracted ↔ (t + weight (last_row k f) ≤ 2 ^ 58))
     → r ≡ last_row k f → new ≡ rows ++ r ∷ [] → IsPlain k new contracted
 IsPlain-last k rows new f t r contracted b ends says row all =
     let more : length new ≡ length rows + 1 = omega (arith, ap length all, length_push rows r) in
@@ -116,8 +117,8 @@ IsPlain-last k rows new f t r contracted b ends says row all =
       narrow = λ yes.
           let light : t + weight (last_row k f) ≤ 2 ^ 58 = says.0 yes in
           let d : unsigned_abs (pos (2 ^ 32) *ℤ f.x) ≡ 2 ^ 32 * unsigned_abs f.x = unsigned_abs-mul (pos (2 ^ 32)) f.x in
-          let last : IsNarrow (last_row k f) = record { x = omega arith; y = b.y; weight = omega arith } in
-          rw (all, row) (All-push IsNarrow rows (last_row k f) b.narrow last);
+          let last : IsLightRow (last_row k f) = record { x = omega arith; y = b.y; weight = omega arith } in
+          rw (all, row) (All-push IsLightRow rows (last_row k f) b.narrow last);
     }
 
 -- the first form with a large number has it in x

@@ -12,7 +12,7 @@ use Rattle.flk_exact.proofs.NumeratorLemmas.{IsOver, AllOver, over_grow, over_wh
 use Rattle.flk_cert.specs.declared.coefs.Coefs.{Coefs}
 use Rattle.flk_cert.specs.Section.{input_before, IsSection}
 use Rattle.flk_cert.specs.RoundedSection.{output, state}
-use Rattle.flk_cert.specs.Bound.{MayStart, AllNear, IsWithin, Bounds, BoundsEach, BoundsFirst, BoundsSecond, KeepsSecond, first_error, second_error}
+use Rattle.flk_cert.specs.Bound.{MayStart, AllNear, IsErrorWithin, Bounds, BoundsEach, BoundsFirst, BoundsSecond, KeepsSecond, first_error, second_error}
 use Rattle.flk_cert.proofs.StepLemmas.{FirstBounded}
 use Rattle.flk_cert.proofs.SampleLemmas.{moves}
 use Rattle.flk_cert.proofs.RunLemmas.{to_numerators, over_coefficient, over_first_state, over_second_state, sample}
@@ -69,7 +69,7 @@ pub over_before : (delta : ℕ) (from_one : Bool) → IsOver (delta * 2 ^ 48) (i
 over_before delta true = over_whole (delta * 2 ^ 48) (pos 1)
 over_before delta false = over_whole (delta * 2 ^ 48) (pos 0)
 
-near_numerators : (delta s : ℕ) (sf : Fraction) (xs : List Fraction) (ns Xs : List ℤ)
+pub near_numerators : (delta s : ℕ) (sf : Fraction) (xs : List Fraction) (ns Xs : List ℤ)
     → 0 < delta → IsOver (delta * 2 ^ 48) sf (pos s) → AllOver (delta * 2 ^ 48) xs ns → AllNear sf xs Xs → NearWhole delta s ns Xs
 near_numerators delta s sf [] [] [] hd hs hx a = tt
 near_numerators delta s sf [] (n ∷ ns) Xs hd hs hx a = absurd hx
@@ -82,10 +82,10 @@ near_numerators delta s sf (x ∷ xs) (n ∷ ns) (X ∷ Xs) hd hs hx a =
     let l = over_at_most d _ _ _ _ (mul-pos hd (omega arith)) a.0.near o hs in
     (omega (arith, ints, l), near_numerators delta s sf xs ns Xs hd hs hx.1 a.1)
 
-within_back : (i r delta s : ℕ) (sf y : Fraction) (m Y : ℤ)
+pub within_back : (i r delta s : ℕ) (sf y : Fraction) (m Y : ℤ)
     → 0 < delta → IsOver (delta * 2 ^ 48) sf (pos s) → IsOver (delta * 2 ^ 48) y m
     → 2 ^ 32 * unsigned_abs (m -ℤ pos delta *ℤ Y) ≤ i * s + 2 ^ 32 * r * delta
-    → IsWithin (pos i) (pos r) sf y Y
+    → IsErrorWithin (pos i) (pos r) sf y Y
 within_back i r delta s sf y m Y hd hs hy h =
     let d : ℕ = delta * 2 ^ 48 in
     let left = over_grow d (2 ^ 32) _ _ (over_size d _ _ (over_difference d y (units Y) m _ hy (over_units delta Y))) in
@@ -95,7 +95,7 @@ within_back i r delta s sf y m Y hd hs hy h =
 newest_within : (k : Coefs) (g h r : ℕ) (from_one : Bool) (s : Fraction) (x y : Fraction) (xs ys : List Fraction) (X : ℤ) (Xs : List ℤ) (delta doubt : ℕ) (ns ms : List ℤ)
     → KeepsFirst k g h → h + 2 ^ 32 ≤ 2 ^ 32 * r → 0 < delta → IsOver (delta * 2 ^ 48) s (pos doubt) → AllOver (delta * 2 ^ 48) (x ∷ xs) ns → AllOver (delta * 2 ^ 48) (y ∷ ys) ms
     → MayStart k from_one → IsSection k from_one (x ∷ xs) (y ∷ ys) → AllNear s (x ∷ xs) (X ∷ Xs)
-    → IsWithin (pos (unsigned_abs k.b0 + g)) (pos r) s y (output k (state k from_one Xs) X)
+    → IsErrorWithin (pos (unsigned_abs k.b0 + g)) (pos r) s y (output k (state k from_one Xs) X)
 newest_within k g h r from_one s x y xs ys X Xs delta doubt [] ms keeps hr hd hs hx hy may run near = absurd hx
 newest_within k g h r from_one s x y xs ys X Xs delta doubt (n ∷ ns) [] keeps hr hd hs hx hy may run near = absurd hy
 newest_within k g h r from_one s x y xs ys X Xs delta doubt (n ∷ ns) (m ∷ ms) keeps hr hd hs hx hy may run near =
@@ -114,7 +114,7 @@ bounds_of k g h r keeps hr from_one s x y xs ys X Xs may natural run near =
 
 -- ---- the states
 
-over_first_error : (delta : ℕ) (k : Coefs) (from_one : Bool) (xs ys : List Fraction) (ns ms Xs : List ℤ) → AllOver (delta * 2 ^ 48) xs ns → AllOver (delta * 2 ^ 48) ys ms
+pub over_first_error : (delta : ℕ) (k : Coefs) (from_one : Bool) (xs ys : List Fraction) (ns ms Xs : List ℤ) → AllOver (delta * 2 ^ 48) xs ns → AllOver (delta * 2 ^ 48) ys ms
     → IsOver (delta * 2 ^ 48 * 2 ^ 32) (first_error k from_one xs ys Xs) (error_one delta k from_one ns ms Xs)
 over_first_error delta k from_one xs ys ns ms Xs hx hy =
     let d : ℕ = delta * 2 ^ 48 in
@@ -124,7 +124,7 @@ over_first_error delta k from_one xs ys ns ms Xs hx hy =
     let e : (pos delta *ℤ S) *ℤ pos (2 ^ 32) ≡ pos delta *ℤ (pos (2 ^ 32) *ℤ S) = mul_assoc (pos delta) S (pos (2 ^ 32)) ∙ ap (λ (z : ℤ). pos delta *ℤ z) (*ℤ_comm S (pos (2 ^ 32))) in
     over_difference (d * 2 ^ 32) _ _ _ _ exact (subst (λ (z : ℤ). IsOver (d * 2 ^ 32) (units S) z) e grid)
 
-over_second_error : (delta : ℕ) (k : Coefs) (from_one : Bool) (xs ys : List Fraction) (ns ms Xs : List ℤ) → AllOver (delta * 2 ^ 48) xs ns → AllOver (delta * 2 ^ 48) ys ms
+pub over_second_error : (delta : ℕ) (k : Coefs) (from_one : Bool) (xs ys : List Fraction) (ns ms Xs : List ℤ) → AllOver (delta * 2 ^ 48) xs ns → AllOver (delta * 2 ^ 48) ys ms
     → IsOver (delta * 2 ^ 48 * 2 ^ 32) (second_error k from_one xs ys Xs) (error_two delta k from_one ns ms Xs)
 over_second_error delta k from_one xs ys ns ms Xs hx hy =
     let d : ℕ = delta * 2 ^ 48 in

@@ -17,16 +17,16 @@ MayStart k true = StartsAtRest k
 MayStart k false = Unit {0}
 
 -- x lies within s of X units
-pub record IsNear (s x : Fraction) (X : ℤ) : Type 0 where
+pub record IsInputNear (s x : Fraction) (X : ℤ) : Type 0 where
   pub near : size (x -ℚ units X) ≤ℚ s
 
 -- each exact input lies within s of the rounded section's
 abbrev pub AllNear : Fraction → List Fraction → List ℤ → Type 0
-AllNear s xs Xs = AllZip (IsNear s) xs Xs
+AllNear s xs Xs = AllZip (IsInputNear s) xs Xs
 
 -- `|y - Y| <= input*s + rounding`, where input is over 2^32 and rounding in units
-abbrev pub IsWithin : (input rounding : ℤ) → (s y : Fraction) → ℤ → Type 0
-IsWithin input rounding s y Y = size (y -ℚ units Y) ≤ℚ (coefficient input *ℚ s +ℚ units rounding)
+abbrev pub IsErrorWithin : (input rounding : ℤ) → (s y : Fraction) → ℤ → Type 0
+IsErrorWithin input rounding s y Y = size (y -ℚ units Y) ≤ℚ (coefficient input *ℚ s +ℚ units rounding)
 
 -- Whatever the inputs and their number: where each exact input is within s of the rounded section's, the newest outputs are within
 -- `input*s + rounding` of each other.
@@ -34,14 +34,14 @@ abbrev pub Bounds : Coefs → (input rounding : ℤ) → Type 0
 Bounds k input rounding =
     (from_one : Bool) (s x y : Fraction) (xs ys : List Fraction) (X : ℤ) (Xs : List ℤ)
     → MayStart k from_one → whole (pos 0) ≤ℚ s → IsSection k from_one (x ∷ xs) (y ∷ ys) → AllNear s (x ∷ xs) (X ∷ Xs)
-    → IsWithin input rounding s y (output k (state k from_one Xs) X)
+    → IsErrorWithin input rounding s y (output k (state k from_one Xs) X)
 
 -- the same of every output
 abbrev pub BoundsEach : Coefs → (input rounding : ℤ) → Type 0
 BoundsEach k input rounding =
     (from_one : Bool) (s : Fraction) (xs ys : List Fraction) (Xs : List ℤ)
     → MayStart k from_one → whole (pos 0) ≤ℚ s → IsSection k from_one xs ys → AllNear s xs Xs
-    → AllZip (IsWithin input rounding s) ys (outputs k from_one Xs)
+    → AllZip (IsErrorWithin input rounding s) ys (outputs k from_one Xs)
 
 -- the errors of the two states
 abbrev pub first_error : Coefs → (from_one : Bool) → (xs ys : List Fraction) → (Xs : List ℤ) → Fraction

@@ -22,7 +22,7 @@ pub record IsBound (g : ℤ) : Type 0 where
   pub small : g <ℤ pos (2 ^ 60)
 
 -- the numbers of a row of which products are formed are in their ranges
-pub record IsInRange (r : CertRow) : Type 0 where
+pub record HasRanges (r : CertRow) : Type 0 where
   pub x : unsigned_abs r.x < 2 ^ 44
   pub y : unsigned_abs r.y < 2 ^ 44
   pub g : IsBound r.g
@@ -35,16 +35,16 @@ pub record HasCount (k : Coefs) (rows : List CertRow) : Type 0 where
   pub single : length rows ≡ 1 → (k.b2 ≡ pos 0) × (k.a2 ≡ pos 0)
 
 -- the row stands for the form `x*s1 + y*s2`
-pub record IsForm (x y : ℤ) (r : CertRow) : Type 0 where
+pub record HasForm (x y : ℤ) (r : CertRow) : Type 0 where
   pub first : r.x ≡ x
   pub second : r.y ≡ y
 
 -- Shape of row i: row 0 stands for 2^32 times the first state, row 1 for `2^32*s2 - a1*s1`.
 pub record HasShape (k : Coefs) (rows : List CertRow) (i : ℕ) : Type 0 where
   pub count : i ≡ 0 → HasCount k rows
-  pub range : IsInRange (row_at rows i)
-  pub row_0 : i ≡ 0 → IsForm (pos (2 ^ 32)) (pos 0) (row_at rows 0)
-  pub row_1 : i ≡ 1 → 1 < length rows → IsForm (neg_ℤ k.a1) (pos (2 ^ 32)) (row_at rows 1)
+  pub range : HasRanges (row_at rows i)
+  pub row_0 : i ≡ 0 → HasForm (pos (2 ^ 32)) (pos 0) (row_at rows 0)
+  pub row_1 : i ≡ 1 → 1 < length rows → HasForm (neg_ℤ k.a1) (pos (2 ^ 32)) (row_at rows 1)
 
 -- Contraction: what the forms take up of the first two is below 1 for one row, and for several rows together at most a quarter.
 pub record Contracts (rows : List CertRow) : Type 0 where
@@ -90,8 +90,8 @@ Meets k rows Input i = i < length rows → CoversInput k rows i
 Meets k rows Rounding i = i < length rows → CoversRounding k rows i
 
 -- The certificate fits the coefficients: each condition is met on each row.
-abbrev pub Fits : Coefs → List CertRow → Type 0
-Fits k rows = (cause : Cause) (i : ℕ) → Meets k rows cause i
+abbrev pub FitsSection : Coefs → List CertRow → Type 0
+FitsSection k rows = (cause : Cause) (i : ℕ) → Meets k rows cause i
 
 -- The order in which the conditions are asked: first Shape of each row, then Contraction, then row by row Identity, Input and Rounding.
 abbrev pub pass : Cause → ℕ
@@ -105,6 +105,6 @@ pub record IsEarlier (first : Cause) (i : ℕ) (second : Cause) (j : ℕ) : Type
   pub is : (pass first < pass second) ⊎ ((pass first ≡ pass second) × ((i < j) ⊎ ((i ≡ j) × (cause_number first < cause_number second))))
 
 -- This condition fails on row i, and no earlier one fails. Each certificate fits or has one first fault, since `check` answers.
-pub record IsFirstFault (k : Coefs) (rows : List CertRow) (cause : Cause) (i : ℕ) : Type 0 where
+pub record IsFirstUnmet (k : Coefs) (rows : List CertRow) (cause : Cause) (i : ℕ) : Type 0 where
   pub fails : ¬ Meets k rows cause i
   pub first : (other : Cause) (j : ℕ) → IsEarlier other j cause i → Meets k rows other j

@@ -4,8 +4,7 @@
 -- to whole numbers. What the rounding leaves is `c` over 2^64 times the form of row 0; what is cut off after the last row is `c` over
 -- 2^64 times the form of row 0 and `d` over 2^64 times that of row 1. Where all `c` and `d` together are small, the errors stay
 -- bounded.
-use Rattle.std.specs.Prelude.{◌≡◌, ◌⊎◌, ◌↔◌, IsTrue, Bool, ℕ, zero, suc, ◌+◌, ◌-◌, ◌*◌, ◌^◌, ◌<◌, ◌≤◌, List, [], ◌∷◌, ◌++◌, length, sum_by, ℤ, pos, neg_ℤ, ◌+ℤ◌, ◌-ℤ◌, ◌*ℤ◌, ◌≤ℤ◌}
-use Rattle.std.specs.List.{All}
+use Rattle.std.specs.Prelude.{◌≡◌, ◌⊎◌, ℕ, zero, suc, ◌+◌, ◌-◌, ◌*◌, ◌^◌, ◌<◌, ◌≤◌, List, [], ◌∷◌, ◌++◌, length, sum_by, ℤ, pos, neg_ℤ, ◌+ℤ◌, ◌-ℤ◌, ◌*ℤ◌, ◌≤ℤ◌}
 use Rattle.std.specs.Int.RustNames.{unsigned_abs}
 use Rattle.flk_exact.specs.Rounding.{floor_of, ceil_of}
 use Rattle.flk_cert.specs.declared.coefs.Coefs.{Coefs}
@@ -66,11 +65,11 @@ pub record IsCount (k : Coefs) (count : ℕ) : Type 0 where
 
 -- ---- the bounds g by the input's share and h by the share of rounding
 
-abbrev pub input_of : Coefs → CertRow → ℕ
-input_of k r = input_share k r.x r.y
+abbrev pub input_share_at : Coefs → CertRow → ℕ
+input_share_at k r = input_share k r.x r.y
 
-abbrev pub rounding_of : Coefs → CertRow → ℕ
-rounding_of k r = rounding_share k r.x r.y
+abbrev pub rounding_share_at : Coefs → CertRow → ℕ
+rounding_share_at k r = rounding_share k r.x r.y
 
 -- the sum of the rows' shares over 2^64, each rounded up
 abbrev pub total_share : (CertRow → ℕ) → List CertRow → ℤ
@@ -90,11 +89,11 @@ bound share most (r ∷ rs) = ceil_of (pos (weight r) *ℤ most +ℤ pos (share 
 abbrev pub bounded_by : Coefs → ℤ → ℤ → List CertRow → List CertRow
 bounded_by k input rounding [] = []
 bounded_by k input rounding (r ∷ rs) =
-    record r { g = bound (input_of k) input (r ∷ rs); h = bound (rounding_of k) rounding (r ∷ rs) } ∷ bounded_by k input rounding rs
+    record r { g = bound (input_share_at k) input (r ∷ rs); h = bound (rounding_share_at k) rounding (r ∷ rs) } ∷ bounded_by k input rounding rs
 
 -- the rows with their bounds
 abbrev pub bounded : Coefs → List CertRow → List CertRow
-bounded k rows = bounded_by k (limit (input_of k) rows) (limit (rounding_of k) rows) rows
+bounded k rows = bounded_by k (limit (input_share_at k) rows) (limit (rounding_share_at k) rows) rows
 
 -- ---- the certificate
 
@@ -120,8 +119,8 @@ one_plain k = record { x = pos (2 ^ 32); y = pos 0; c = neg_ℤ (pos (2 ^ 32) *�
 -- the same with its bounds
 pub record IsOneRow (k : Coefs) (r : CertRow) : Type 0 where
   pub plain : r ≡ record (one_plain k) { g = r.g; h = r.h }
-  pub g : IsOneBound r.c (input_of k r) r.g
-  pub h : IsOneBound r.c (rounding_of k r) r.h
+  pub g : IsOneBound r.c (input_share_at k r) r.g
+  pub h : IsOneBound r.c (rounding_share_at k r) r.h
 
 -- the rows are those of the certificate that is made for the section
 pub record IsMade (k : Coefs) (rows : List CertRow) : Type 0 where
@@ -132,35 +131,3 @@ pub record IsMade (k : Coefs) (rows : List CertRow) : Type 0 where
   -- with their bounds where they are contracted, and without where they are not
   pub contracted : ¬ IsFirstOrder k → IsContracted k (length rows) → rows ≡ bounded k (rows_of k (length rows))
   pub others : ¬ IsFirstOrder k → ¬ IsContracted k (length rows) → rows ≡ rows_of k (length rows)
-
--- ---- what the code keeps
-
--- a row whose numbers are small enough for its bounds
-pub record IsNarrow (r : CertRow) : Type 0 where
-  pub x : unsigned_abs r.x < 2 ^ 44
-  pub y : unsigned_abs r.y < 2 ^ 44
-  pub weight : weight r ≤ 2 ^ 58
-
--- the rows may end with one more row, of this form, after so many that have this weight
-abbrev pub EndsWith : Coefs → ℕ → Form → ℕ → Type 0
-EndsWith k before f taken = (taken + weight (last_row k f) ≤ 2 ^ 58) ⊎ (IsLarge f ⊎ (before ≡ 4095))
-
--- the rows so far, of which none is the last, the form of the next row, and the weight of the rows so far
-pub record IsBegun (k : Coefs) (rows : List CertRow) (f : Form) (taken : ℕ) : Type 0 where
-  pub few : length rows ≤ 4095
-  pub inner : rows ≡ inner_rows k (length rows)
-  pub form : f ≡ form_of k (length rows)
-  pub weighs : taken ≡ sum_by weight rows
-  pub light : taken ≤ length rows * 2 ^ 32
-  pub x : unsigned_abs f.x ≤ 2 ^ 46
-  pub y : unsigned_abs f.y < 2 ^ 44
-  pub narrow : All IsNarrow rows
-  pub going : (n : ℕ) → 2 ≤ n → n ≤ length rows → ¬ MayEnd k n
-
--- all rows, with no bounds, and whether they are contracted
-pub record IsPlain (k : Coefs) (rows : List CertRow) (contracted : Bool) : Type 0 where
-  pub few : length rows ≤ 4096
-  pub all : rows ≡ rows_of k (length rows)
-  pub count : IsCount k (length rows)
-  pub says : IsTrue contracted ↔ IsContracted k (length rows)
-  pub narrow : IsTrue contracted → All IsNarrow rows

@@ -19,6 +19,6 @@ abbrev pub rounding_share : Coefs → ℤ → ℤ → ℕ
 rounding_share k x y = 2 ^ 32 * unsigned_abs (k.a1 *ℤ x +ℤ k.a2 *ℤ y) + 2 ^ 64 * (unsigned_abs x + unsigned_abs y)
 
 -- 0 or more, and at most so much
-pub record IsWithin (most : ℕ) (z : ℤ) : Type 0 where
+pub record IsUpTo (most : ℕ) (z : ℤ) : Type 0 where
   pub low : pos 0 ≤ℤ z
   pub high : z ≤ℤ pos most

@@ -3,8 +3,8 @@
 ghost use Rattle.std.specs.Prelude.{◌≡◌, ◌↔◌, ℕ, ◌^◌, ◌<◌, ◌≤◌, length, IsTrue, IfSome, IfNone, IfOk, IsOk, IsErrOf, pos, neg_ℤ, ◌+ℤ◌, ◌-ℤ◌, ◌*ℤ◌};
 ghost use Rattle.std.specs.Int.RustNames.{unsigned_abs};
 ghost use Rattle.flk_cert.specs.Cause.{cause_number};
-ghost use Rattle.flk_cert.specs.Certificate.{row_at as row_of, IsBound, IsInRange, HasShape, Contracts, IsCombined, HasIdentity, Covers, CoversInput, CoversRounding, Fits, IsFirstFault};
-ghost use Rattle.flk_cert.specs.Row.{IsWithin, fed_back, input_share, rounding_share};
+ghost use Rattle.flk_cert.specs.Certificate.{row_at as row_of, IsBound, HasRanges, HasShape, Contracts, IsCombined, HasIdentity, Covers, CoversInput, CoversRounding, FitsSection, IsFirstUnmet};
+ghost use Rattle.flk_cert.specs.Row.{IsUpTo, fed_back, input_share, rounding_share};
 ghost use Rattle.flk_cert.specs.Judged.{IsJudged, AllAreMet, IsFirstOnRow};
 ghost use Rattle.flk_cert.specs.Bound.{Bounds};
 ghost use Rattle.flk_cert.specs.Gain.{coefs_of, input_of, rounding_of, IsGainOf};
@@ -40,8 +40,8 @@ fn combined(number: i64, factor: i128) -> i128
 }
 
 fn is_first_combined(k: &Coefs, row: CertRow, next: CertRow) -> bool
-    requires row { IsInRange row }
-    requires next { IsInRange next }
+    requires row { HasRanges row }
+    requires next { HasRanges next }
     requires c { unsigned_abs row.c ≤ 2 ^ 62 }
     requires d { unsigned_abs row.d ≤ 2 ^ 62 }
     ensures { IsTrue result ↔ (pos (2 ^ 32) *ℤ fed_back k.now row.x row.y ≡ pos (2 ^ 64) *ℤ next.x +ℤ pos (2 ^ 32) *ℤ row.c -ℤ k.now.a1 *ℤ row.d) }
@@ -54,8 +54,8 @@ fn is_first_combined(k: &Coefs, row: CertRow, next: CertRow) -> bool
 }
 
 fn is_second_combined(row: CertRow, next: CertRow) -> bool
-    requires row { IsInRange row }
-    requires next { IsInRange next }
+    requires row { HasRanges row }
+    requires next { HasRanges next }
     requires d { unsigned_abs row.d ≤ 2 ^ 62 }
     ensures { IsTrue result ↔ (pos (2 ^ 64) *ℤ row.x ≡ pos (2 ^ 64) *ℤ next.y +ℤ pos (2 ^ 32) *ℤ row.d) }
 {
@@ -63,8 +63,8 @@ fn is_second_combined(row: CertRow, next: CertRow) -> bool
 }
 
 fn is_combined(k: &Coefs, row: CertRow, next: CertRow) -> bool
-    requires row { IsInRange row }
-    requires next { IsInRange next }
+    requires row { HasRanges row }
+    requires next { HasRanges next }
     requires c { unsigned_abs row.c ≤ 2 ^ 62 }
     requires d { unsigned_abs row.d ≤ 2 ^ 62 }
     ensures { IsTrue result ↔ IsCombined k.now row next }
@@ -118,7 +118,7 @@ fn covers(row: CertRow, first: i128, second: i128, next: i128, share: i128, own:
     requires first { IsBound first }
     requires second { IsBound second }
     requires next { IsBound next }
-    requires share { IsWithin (2 ^ 112) share }
+    requires share { IsUpTo (2 ^ 112) share }
     requires own { IsBound own }
     ensures { IsTrue result ↔ Covers row first second next (unsigned_abs share) own }
 {
@@ -130,10 +130,10 @@ fn covers(row: CertRow, first: i128, second: i128, next: i128, share: i128, own:
 }
 
 fn covers_input(k: &Coefs, row: CertRow, first: CertRow, second: CertRow, next: CertRow) -> bool
-    requires row { IsInRange row }
-    requires first { IsInRange first }
-    requires second { IsInRange second }
-    requires next { IsInRange next }
+    requires row { HasRanges row }
+    requires first { HasRanges first }
+    requires second { HasRanges second }
+    requires next { HasRanges next }
     requires c { unsigned_abs row.c ≤ 2 ^ 64 }
     requires d { unsigned_abs row.d ≤ 2 ^ 64 }
     ensures { IsTrue result ↔ Covers row first.g second.g next.g (input_share k.now row.x row.y) row.g }
@@ -143,10 +143,10 @@ fn covers_input(k: &Coefs, row: CertRow, first: CertRow, second: CertRow, next: 
 }
 
 fn covers_rounding(k: &Coefs, row: CertRow, first: CertRow, second: CertRow, next: CertRow) -> bool
-    requires row { IsInRange row }
-    requires first { IsInRange first }
-    requires second { IsInRange second }
-    requires next { IsInRange next }
+    requires row { HasRanges row }
+    requires first { HasRanges first }
+    requires second { HasRanges second }
+    requires next { HasRanges next }
     requires c { unsigned_abs row.c ≤ 2 ^ 64 }
     requires d { unsigned_abs row.d ≤ 2 ^ 64 }
     ensures { IsTrue result ↔ Covers row first.h second.h next.h (rounding_share k.now row.x row.y) row.h }
@@ -193,8 +193,8 @@ fn cause_on_row(k: &Coefs, rows: &[CertRow], i: usize) -> Option<Cause>
 // The first condition that fails, of those that are asked row by row.
 fn first_row_fault(k: &Coefs, rows: &[CertRow]) -> Option<Fault>
     requires judged { IsJudged k.now rows.now }
-    ensures none { IfNone result (Fits k.now rows.now) }
-    ensures some { IfSome result (λ f. IsFirstFault k.now rows.now f.cause f.row) }
+    ensures none { IfNone result (FitsSection k.now rows.now) }
+    ensures some { IfSome result (λ f. IsFirstUnmet k.now rows.now f.cause f.row) }
     ensures small { IfSome result (λ f. f.row < 4096) }
 {
     for row in 0..rows.len() {
@@ -207,8 +207,8 @@ fn first_row_fault(k: &Coefs, rows: &[CertRow]) -> Option<Fault>
 
 // The first condition that fails.
 fn first_fault(k: &Coefs, rows: &[CertRow]) -> Option<Fault>
-    ensures none { IfNone result (Fits k.now rows.now) }
-    ensures some { IfSome result (λ f. IsFirstFault k.now rows.now f.cause f.row) }
+    ensures none { IfNone result (FitsSection k.now rows.now) }
+    ensures some { IfSome result (λ f. IsFirstUnmet k.now rows.now f.cause f.row) }
     ensures small { IfSome result (λ f. f.row < 4096) }
 {
     if let Some(row) = first_misshaped(k, rows) {
@@ -232,10 +232,10 @@ fn first_fault(k: &Coefs, rows: &[CertRow]) -> Option<Fault>
 /// contraction of all rows, then row by row identity, input and rounding ([`CertFault`] has the numbers). The gain bounds the error
 /// of the section whose products are rounded, for inputs of any number.
 pub fn check(k: &Coefs, cert: &Cert) -> Result<Gain, CertFault>
-    ensures ok { IsOk result ↔ Fits k.now cert.now.rows }
+    ensures ok { IsOk result ↔ FitsSection k.now cert.now.rows }
     ensures gain { IfOk result (λ gain. IsGainOf k.now cert.now.rows gain) }
     ensures bound { IfOk result (λ gain. Bounds k.now (input_of gain) (rounding_of gain)) }
-    ensures fault { (cause : CauseView) (row : ℕ) → IsErrOf result (record { row = row; kind = cause_number cause }) ↔ IsFirstFault k.now cert.now.rows cause row }
+    ensures fault { (cause : CauseView) (row : ℕ) → IsErrOf result (record { row = row; kind = cause_number cause }) ↔ IsFirstUnmet k.now cert.now.rows cause row }
 {
     let rows = cert.rows.as_slice();
     match first_fault(k, rows) {

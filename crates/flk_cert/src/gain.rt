@@ -3,13 +3,13 @@
 ghost use Rattle.std.specs.Prelude.{◌≡◌, ◌^◌, pos, ◌≤ℤ◌, ◌+ℤ◌};
 ghost use Rattle.std.specs.Int.RustNames.{unsigned_abs};
 ghost use Rattle.flk_exact.specs.Rounding.{ceil_of};
-ghost use Rattle.flk_cert.specs.Certificate.{IsBound, Fits};
+ghost use Rattle.flk_cert.specs.Certificate.{IsBound, FitsSection};
 ghost use Rattle.flk_cert.specs.Bound.{Bounds, BoundsFirst, BoundsSecond, KeepsSecond};
 
 use crate::certificate::CertRow;
 use crate::coefs::Coefs;
 use crate::shape::row_at;
-use flk_num::ceil_div;
+use flk_num::{ceil_div, crosses_threads};
 
 const TWO_TO_32: i128 = 4_294_967_296;
 
@@ -47,6 +47,10 @@ pub struct Gain {
     ghost input_natural: { pos 0 ≤ℤ input },
     ghost rounding_natural: { pos 0 ≤ℤ rounding },
     ghost rounding_small: { rounding ≤ℤ pos (2 ^ 29) },
+    ghost first_input_limits: { IsBound first_input },
+    ghost first_rounding_limits: { IsBound first_rounding },
+    ghost second_input_limits: { IsBound second_input },
+    ghost second_rounding_limits: { IsBound second_rounding },
     ghost bounds: { Bounds coefs input rounding },
     ghost bounds_first: { BoundsFirst coefs first_input first_rounding },
     ghost bounds_second: { BoundsSecond coefs second_input second_rounding },
@@ -54,11 +58,11 @@ pub struct Gain {
 }
 
 impl Gain {
-    ghost use Rattle.flk_cert.specs.Gain.{coefs_of, input_of, rounding_of, IsGainOf};
+    ghost use Rattle.flk_cert.specs.Gain.{coefs_of, input_of, rounding_of, first_input_of, first_rounding_of, second_input_of, second_rounding_of, IsGainOf};
 
     // The gain of a certificate that fits.
     pub(crate) fn of(k: &Coefs, rows: &[CertRow]) -> Gain
-        requires { Fits k.now rows.now }
+        requires { FitsSection k.now rows.now }
         ensures { IsGainOf k.now rows.now result }
     {
         let first = row_at(rows, 0);
@@ -97,4 +101,29 @@ impl Gain {
     {
         self.rounding
     }
+
+    /// What bounds the error of the first state: g over 2^32 and h over 2^32 units. With an input error of at most r units it is at most
+    /// `(g*r + h)/2^32` units. Each is from 0 to below 2^60.
+    pub fn first(&self) -> (i128, i128)
+        ensures input { result.0 ≡ first_input_of self.now }
+        ensures rounding { result.1 ≡ first_rounding_of self.now }
+        ensures limits { IsBound result.0 × IsBound result.1 }
+    {
+        (self.first_input, self.first_rounding)
+    }
+
+    /// What bounds the error of `s2 - a1*s1/2^32` in the same way, for the second state s2 and the first, s1. Both are 0 for a certificate
+    /// of one row, whose second state has no error. Each is from 0 to below 2^60.
+    pub fn second(&self) -> (i128, i128)
+        ensures input { result.0 ≡ second_input_of self.now }
+        ensures rounding { result.1 ≡ second_rounding_of self.now }
+        ensures limits { IsBound result.0 × IsBound result.1 }
+    {
+        (self.second_input, self.second_rounding)
+    }
+}
+
+// A gain can be handed to another thread, and seen by several at once.
+fn gain_crosses_threads(gain: &Gain) {
+    crosses_threads(gain);
 }

@@ -27,7 +27,10 @@ pub use gain::Gain;
 pub use making::{
     certificate_is_one, large_form_is_not_contracted, make, row_one_is_the_second_state,
 };
-pub use section::{gain_bounds_each_output, inputs_have_one_list_of_outputs};
+pub use section::{
+    certificate_has_one_gain, gain_bounds_both_states, gain_bounds_each_output,
+    inputs_have_one_list_of_outputs,
+};
 
 #[cfg(test)]
 mod make_tests;

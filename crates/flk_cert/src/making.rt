@@ -6,8 +6,9 @@ ghost use Rattle.std.specs.List.{All};
 ghost use Rattle.flk_exact.specs.Rounding.{ceil_of};
 ghost use Rattle.flk_cert.specs.declared.certificate.CertRow.{CertRow as RowView};
 ghost use Rattle.flk_cert.specs.declared.coefs.Coefs.{Coefs as CoefsView};
-ghost use Rattle.flk_cert.specs.Row.{IsWithin, fed_back};
-ghost use Rattle.flk_cert.specs.Make.{next_form, form_of, inner_row as inner, last_row as last, one_plain, weight, IsLarge, IsContracted, IsCount, input_of, rounding_of, total_share, bounded, bounded_by, IsFirstOrder, IsOneBound, IsOneRow, IsMade, IsNarrow, EndsWith, IsBegun, IsPlain};
+ghost use Rattle.flk_cert.specs.Row.{IsUpTo, fed_back};
+ghost use Rattle.flk_cert.specs.Make.{next_form, form_of, inner_row as inner, last_row as last, one_plain, weight, IsLarge, IsContracted, IsCount, input_share_at, rounding_share_at, total_share, bounded, bounded_by, IsFirstOrder, IsOneBound, IsOneRow, IsMade};
+ghost use Rattle.flk_cert.specs.Making.{IsLightRow, MayEndWith, IsBegun, IsPlain};
 
 use crate::row::{
     COEFFICIENT_UNIT, Form, ROW_UNIT, first_state_part, input_share_of, product, rounding_share_of,
@@ -103,7 +104,7 @@ fn is_contracted(k: &Coefs, form: Form, taken: u128) -> bool
 // Whether the rows end with one more row, of this form, after so many that have this weight.
 fn ends(k: &Coefs, before: usize, form: Form, taken: u128) -> bool
     requires { taken < 2 ^ 98 }
-    ensures { IsTrue result ↔ ((0 < before) × EndsWith k.now before form taken) }
+    ensures { IsTrue result ↔ ((0 < before) × MayEndWith k.now before form taken) }
 {
     0 < before && (is_contracted(k, form, taken) || is_large(form) || before == MOST_BEFORE_LAST)
 }
@@ -136,9 +137,9 @@ fn plain_rows(alloc: Global, k: &Coefs) -> Result<Plain, AllocError>
 
 // A share over 2^64, rounded up.
 fn rounded_share(share: i128) -> i128
-    requires { IsWithin (2 ^ 112) share }
+    requires { IsUpTo (2 ^ 112) share }
     ensures value { result ≡ ceil_of share (pos (2 ^ 64)) }
-    ensures within { IsWithin (2 ^ 48) result }
+    ensures within { IsUpTo (2 ^ 48) result }
 {
     ceil_div(share, ROW_UNIT)
 }
@@ -152,11 +153,11 @@ struct Totals {
 
 fn totals_of(k: &Coefs, rows: &[CertRow]) -> Totals
     requires few { length rows.now ≤ 4096 }
-    requires narrow { All IsNarrow rows.now }
-    ensures input { result.input ≡ total_share (input_of k.now) rows.now }
-    ensures input_within { IsWithin (2 ^ 60) result.input }
-    ensures rounding { result.rounding ≡ total_share (rounding_of k.now) rows.now }
-    ensures rounding_within { IsWithin (2 ^ 60) result.rounding }
+    requires narrow { All IsLightRow rows.now }
+    ensures input { result.input ≡ total_share (input_share_at k.now) rows.now }
+    ensures input_within { IsUpTo (2 ^ 60) result.input }
+    ensures rounding { result.rounding ≡ total_share (rounding_share_at k.now) rows.now }
+    ensures rounding_within { IsUpTo (2 ^ 60) result.rounding }
 {
     let mut input = 0;
     let mut rounding = 0;
@@ -169,10 +170,10 @@ fn totals_of(k: &Coefs, rows: &[CertRow]) -> Totals
 
 // 64/63 of a total share with one for each row, rounded up.
 fn limit_of(total: i128, count: usize) -> i128
-    requires total { IsWithin (2 ^ 60) total }
+    requires total { IsUpTo (2 ^ 60) total }
     requires few { count ≤ 4096 }
     ensures value { result ≡ ceil_of (pos 64 *ℤ (total +ℤ pos count)) (pos 63) }
-    ensures within { IsWithin (2 ^ 62) result }
+    ensures within { IsUpTo (2 ^ 62) result }
 {
     ceil_div(64 * (total + count as i128), 63)
 }
@@ -180,9 +181,9 @@ fn limit_of(total: i128, count: usize) -> i128
 // A weight times a limit.
 fn weighted(weight: u128, most: i128) -> i128
     requires weight { weight ≤ 2 ^ 58 }
-    requires most { IsWithin (2 ^ 62) most }
+    requires most { IsUpTo (2 ^ 62) most }
     ensures value { result ≡ pos weight *ℤ most }
-    ensures within { IsWithin (2 ^ 120) result }
+    ensures within { IsUpTo (2 ^ 120) result }
 {
     weight as i128 * most
 }
@@ -190,10 +191,10 @@ fn weighted(weight: u128, most: i128) -> i128
 // What a row of this weight and share adds to the bounds of itself and the rows before it.
 fn added(weight: u128, most: i128, share: i128) -> i128
     requires weight { weight ≤ 2 ^ 58 }
-    requires most { IsWithin (2 ^ 62) most }
-    requires share { IsWithin (2 ^ 112) share }
+    requires most { IsUpTo (2 ^ 62) most }
+    requires share { IsUpTo (2 ^ 112) share }
     ensures value { result ≡ ceil_of (pos weight *ℤ most +ℤ share) (pos (2 ^ 64)) }
-    ensures within { IsWithin (2 ^ 57) result }
+    ensures within { IsUpTo (2 ^ 57) result }
 {
     ceil_div(weighted(weight, most) + share, ROW_UNIT)
 }
@@ -208,9 +209,9 @@ fn bounded_row(row: CertRow, g: i128, h: i128) -> CertRow
 // Gives the rows their bounds, from the last one back.
 fn set_bounds(k: &Coefs, rows: &mut [CertRow], input: i128, rounding: i128)
     requires few { length rows.old ≤ 4096 }
-    requires narrow { All IsNarrow rows.old }
-    requires input { IsWithin (2 ^ 62) input }
-    requires rounding { IsWithin (2 ^ 62) rounding }
+    requires narrow { All IsLightRow rows.old }
+    requires input { IsUpTo (2 ^ 62) input }
+    requires rounding { IsUpTo (2 ^ 62) rounding }
     ensures { rows.new ≡ bounded_by k.now input rounding rows.old }
 {
     let mut g = 0;
@@ -228,7 +229,7 @@ fn set_bounds(k: &Coefs, rows: &mut [CertRow], input: i128, rounding: i128)
 // Gives the rows their bounds.
 fn bound_rows(k: &Coefs, rows: &mut [CertRow])
     requires few { length rows.old ≤ 4096 }
-    requires narrow { All IsNarrow rows.old }
+    requires narrow { All IsLightRow rows.old }
     ensures { rows.new ≡ bounded k.now rows.old }
 {
     let totals = totals_of(k, rows);
@@ -240,7 +241,7 @@ fn bound_rows(k: &Coefs, rows: &mut [CertRow])
 // The least bound of the one row of a certificate.
 fn one_bound(c: i128, share: i128) -> i128
     requires c { unsigned_abs c ≤ 2 ^ 65 }
-    requires share { IsWithin (2 ^ 112) share }
+    requires share { IsUpTo (2 ^ 112) share }
     ensures { IsOneBound c (unsigned_abs share) result }
 {
     let left = ROW_UNIT - size(c);
@@ -295,9 +296,10 @@ pub fn make(alloc: Global, k: &Coefs) -> Result<Cert, AllocError>
     })
 }
 
-/// There is one certificate that is made for a section.
+/// There is a certificate that is made for a section, and no second one.
 pub fn certificate_is_one()
-    ensures { (k : CoefsView) (p q : Sequence RowView) → IsMade k p → IsMade k q → p ≡ q }
+    ensures exists { (k : CoefsView) → (rows : Sequence RowView) × IsMade k rows }
+    ensures unique { (k : CoefsView) (p q : Sequence RowView) → IsMade k p → IsMade k q → p ≡ q }
 {}
 
 /// The form of row 1 is `(-a1, 2^32)`: the error of the second state, with what the first state's output feeds back.

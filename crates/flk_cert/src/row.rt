@@ -2,7 +2,7 @@
 
 ghost use Rattle.std.specs.Prelude.{◌≡◌, ◌+◌, ◌*◌, ◌^◌, ◌<◌, ◌≤◌, pos, ◌+ℤ◌, ◌-ℤ◌, ◌*ℤ◌};
 ghost use Rattle.std.specs.Int.RustNames.{unsigned_abs};
-ghost use Rattle.flk_cert.specs.Row.{IsWithin, fed_back, input_share, rounding_share};
+ghost use Rattle.flk_cert.specs.Row.{IsUpTo, fed_back, input_share, rounding_share};
 
 use crate::certificate::CertRow;
 use crate::coefs::Coefs;
@@ -71,7 +71,7 @@ pub(crate) fn input_share_of(k: &Coefs, row: CertRow) -> i128
     requires x { unsigned_abs row.x < 2 ^ 44 }
     requires y { unsigned_abs row.y < 2 ^ 44 }
     ensures value { result ≡ pos (input_share k.now row.x row.y) }
-    ensures within { IsWithin (2 ^ 112) result }
+    ensures within { IsUpTo (2 ^ 112) result }
 {
     let first = input_product(row.x, input_part(k.b1, k.a1, k.b0));
     let second = input_product(row.y, input_part(k.b2, k.a2, k.b0));
@@ -80,10 +80,10 @@ pub(crate) fn input_share_of(k: &Coefs, row: CertRow) -> i128
 
 // Two kinds of rounding together: of what the first state's error brings, and of the states.
 fn rounding_total(back: i128, states: i128) -> i128
-    requires back { IsWithin (2 ^ 78) back }
-    requires states { IsWithin (2 ^ 45) states }
+    requires back { IsUpTo (2 ^ 78) back }
+    requires states { IsUpTo (2 ^ 45) states }
     ensures value { result ≡ pos (2 ^ 32) *ℤ back +ℤ pos (2 ^ 64) *ℤ states }
-    ensures within { IsWithin (2 ^ 112) result }
+    ensures within { IsUpTo (2 ^ 112) result }
 {
     COEFFICIENT_UNIT * back + ROW_UNIT * states
 }
@@ -93,7 +93,7 @@ fn form_size(form: Form) -> i128
     requires x { unsigned_abs form.x < 2 ^ 44 }
     requires y { unsigned_abs form.y < 2 ^ 44 }
     ensures value { result ≡ pos (unsigned_abs form.x + unsigned_abs form.y) }
-    ensures within { IsWithin (2 ^ 45) result }
+    ensures within { IsUpTo (2 ^ 45) result }
 {
     i128::from(form.x.unsigned_abs() + form.y.unsigned_abs())
 }
@@ -103,7 +103,7 @@ pub(crate) fn rounding_share_of(k: &Coefs, row: CertRow) -> i128
     requires x { unsigned_abs row.x < 2 ^ 44 }
     requires y { unsigned_abs row.y < 2 ^ 44 }
     ensures value { result ≡ pos (rounding_share k.now row.x row.y) }
-    ensures within { IsWithin (2 ^ 112) result }
+    ensures within { IsUpTo (2 ^ 112) result }
 {
     let form = Form { x: row.x, y: row.y };
     rounding_total(size(first_state_part(k, form)), form_size(form))

@@ -2,7 +2,7 @@
 
 ghost use Rattle.std.specs.Prelude.{◌≡◌, ◌↔◌, ℕ, ◌+◌, ◌^◌, ◌<◌, ◌≤◌, length, sum_by, IsTrue, IfSome, IfNone, neg_ℤ};
 ghost use Rattle.std.specs.Int.RustNames.{unsigned_abs};
-ghost use Rattle.flk_cert.specs.Certificate.{row_at as row_of, IsBound, IsInRange, HasCount, IsForm, HasShape, Contracts};
+ghost use Rattle.flk_cert.specs.Certificate.{row_at as row_of, IsBound, HasRanges, HasCount, HasForm, HasShape, Contracts};
 
 use crate::certificate::CertRow;
 use crate::coefs::Coefs;
@@ -34,7 +34,7 @@ fn is_bound(g: i128) -> bool
 }
 
 fn is_in_range(row: CertRow) -> bool
-    ensures { IsTrue result ↔ IsInRange row }
+    ensures { IsTrue result ↔ HasRanges row }
 {
     if row.x.unsigned_abs() >= TWO_TO_44 || row.y.unsigned_abs() >= TWO_TO_44 {
         return false;
@@ -55,7 +55,7 @@ fn has_count(k: &Coefs, rows: &[CertRow]) -> bool
 const TWO_TO_32: i64 = 4_294_967_296;
 
 fn has_form(row: CertRow, x: i64, y: i64) -> bool
-    ensures { IsTrue result ↔ IsForm x y row }
+    ensures { IsTrue result ↔ HasForm x y row }
 {
     row.x == x && row.y == y
 }

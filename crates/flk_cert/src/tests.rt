@@ -1,6 +1,6 @@
 //! Certificates that are accepted and refused.
 
-use crate::{Cert, CertFault, CertRow, Coefs, check};
+use crate::{Cert, CertFault, CertRow, Coefs, Gain, check};
 use flk_num::List;
 use std::test::Fail;
 
@@ -13,17 +13,31 @@ const NO_ROW: CertRow = CertRow {
     h: 0,
 };
 
+// The gain, or the fault.
+fn gain_of(rt: &HostRuntime, k: &Coefs, rows: &[CertRow]) -> Result<Result<Gain, CertFault>, Fail> {
+    let mut list = List::new(rt.alloc());
+    for row in rows {
+        list.push(*row)?;
+    }
+    Ok(check(k, &Cert { rows: list }))
+}
+
 // The input and the rounding of the gain, or the fault.
 fn checked(
     rt: &HostRuntime,
     k: &Coefs,
     rows: &[CertRow],
 ) -> Result<Result<(i128, i128), CertFault>, Fail> {
-    let mut list = List::new(rt.alloc());
-    for row in rows {
-        list.push(*row)?;
-    }
-    Ok(check(k, &Cert { rows: list }).map(|gain| (gain.input(), gain.rounding())))
+    Ok(gain_of(rt, k, rows)?.map(|gain| (gain.input(), gain.rounding())))
+}
+
+// The bounds of the two states, or the fault.
+fn states(
+    rt: &HostRuntime,
+    k: &Coefs,
+    rows: &[CertRow],
+) -> Result<Result<((i128, i128), (i128, i128)), CertFault>, Fail> {
+    Ok(gain_of(rt, k, rows)?.map(|gain| (gain.first(), gain.second())))
 }
 
 fn refused(row: u32, kind: u8) -> Result<(i128, i128), CertFault> {
@@ -50,6 +64,7 @@ fn first_order(rt: HostRuntime) -> Result<(), Fail> {
         h: 149_822_513_299,
     };
     assert_eq!(rt; checked(&rt, &k, &[row])?, Ok((4_294_967_279, 36)));
+    assert_eq!(rt; states(&rt, &k, &[row])?, Ok(((row.g, row.h), (0, 0))));
     row.g -= 1;
     assert_eq!(rt; checked(&rt, &k, &[row])?, refused(0, 4));
     Ok(())
@@ -84,6 +99,11 @@ fn two_rows(rt: HostRuntime) -> Result<(), Fail> {
         },
     ];
     assert_eq!(rt; checked(&rt, &k, &rows)?, Ok((5_726_623_062, 4)));
+    let bounds = (
+        (1_431_655_766, 12_884_901_888),
+        (1_431_655_766, 8_589_934_592),
+    );
+    assert_eq!(rt; states(&rt, &k, &rows)?, Ok(bounds));
     rows[1].h -= 1;
     assert_eq!(rt; checked(&rt, &k, &rows)?, refused(1, 5));
     Ok(())

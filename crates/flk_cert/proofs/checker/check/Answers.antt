@@ -1,5 +1,5 @@
 use Rattle.std.proofs.Common.{rules}
-use Rattle.flk_cert.specs.Certificate.{IsFirstFault}
+use Rattle.flk_cert.specs.Certificate.{IsFirstUnmet}
 use Rattle.flk_cert.proofs.FaultLemmas.{answer_is_first}
 use Rattle.flk_cert.proofs.checker.check.Goals as goal
 
@@ -8,5 +8,5 @@ returns-in-Some-clause-fault c =
     let k = c.args.k.now in
     let rows = c.args.cert.now.rows in
     let fault = c.in-Some.fault in
-    let first : IsFirstFault k rows fault.cause fault.row = search rules in
+    let first : IsFirstUnmet k rows fault.cause fault.row = search rules in
     answer_is_first k rows fault.cause fault.row c.number.result c.number.ensures first

@@ -1,5 +1,9 @@
+use Rattle.flk_cert.proofs.MadeCases.{made_exists}
 use Rattle.flk_cert.proofs.MakeLemmas.{IsMade-unique}
 use Rattle.flk_cert.proofs.making.certificate_is_one.Goals as goal
 
-pub returns : goal.returns
-returns c = IsMade-unique
+pub returns-clause-exists : goal.returns-clause-exists
+returns-clause-exists c = made_exists
+
+pub returns-clause-unique : goal.returns-clause-unique
+returns-clause-unique c = IsMade-unique

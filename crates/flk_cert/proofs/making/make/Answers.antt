@@ -1,5 +1,5 @@
 use Rattle.std.proofs.Common.{length, arith, ap}
-use Rattle.flk_cert.specs.Make.{IsPlain}
+use Rattle.flk_cert.specs.Making.{IsPlain}
 use Rattle.flk_cert.proofs.making.make.Goals as goal
 
 pub bound_rows-requires-clause-few : goal.bound_rows-requires-clause-few

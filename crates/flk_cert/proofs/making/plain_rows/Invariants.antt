@@ -1,5 +1,5 @@
 use Rattle.std.proofs.Common.{◌-◌, length}
-use Rattle.flk_cert.specs.Make.{IsBegun}
+use Rattle.flk_cert.specs.Making.{IsBegun}
 use Rattle.flk_cert.proofs.making.plain_rows.Given as goal
 
 abbrev pub invariant-loop-next : goal.invariant-loop-next

@@ -3,7 +3,7 @@ use Rattle.std.specs.Int.{w128}
 use Rattle.std.specs.Int.RustNames.{FitsSigned}
 use Rattle.std.proofs.lemmas.Int.{ints, to_z-of_z}
 use Rattle.flk_exact.specs.Rounding.{ceil_of}
-use Rattle.flk_cert.specs.Make.{input_of, rounding_of, bound, bounded_by}
+use Rattle.flk_cert.specs.Make.{input_share_at, rounding_share_at, bound, bounded_by}
 use Rattle.flk_cert.specs.Certificate.{no_row}
 use Rattle.flk_cert.proofs.MakeBounds.{bound_step, row_as_it_was, narrow_before, bounded_more, within_more}
 use Rattle.flk_cert.proofs.making.set_bounds.Goals as goal
@@ -50,14 +50,14 @@ loop-left-preserved c =
     let now : c.loop-left.rows ≡ take c.loop-left.left c.args.rows.now ++ bounded_by c.args.k.now c.args.input c.args.rounding (drop c.loop-left.left c.args.rows.now) = search rules in
     let rows : c.loop-left.rows ≡ take (n + 1) c.args.rows.now ++ bounded_by c.args.k.now c.args.input c.args.rounding (drop (n + 1) c.args.rows.now) = rw left now in
     let was : get_or c.loop-left.rows n no_row ≡ get_or c.args.rows.now n no_row = row_as_it_was c.args.k.now c.args.input c.args.rounding c.args.rows.now c.loop-left.rows n no_row low rows in
-    let g_now : c.loop-left.g ≡ bound (input_of c.args.k.now) c.args.input (drop (n + 1) c.args.rows.now) = rw left (search rules) in
-    let h_now : c.loop-left.h ≡ bound (rounding_of c.args.k.now) c.args.rounding (drop (n + 1) c.args.rows.now) = rw left (search rules) in
+    let g_now : c.loop-left.g ≡ bound (input_share_at c.args.k.now) c.args.input (drop (n + 1) c.args.rows.now) = rw left (search rules) in
+    let h_now : c.loop-left.h ≡ bound (rounding_share_at c.args.k.now) c.args.rounding (drop (n + 1) c.args.rows.now) = rw left (search rules) in
     let p : c.added-g.result ≡ ceil_of (pos c.weight_of.result *ℤ c.args.input +ℤ c.input_share_of.result) (pos (2 ^ 64)) = search rules in
     let q : c.added-h.result ≡ ceil_of (pos c.weight_of-in-loop-left.result *ℤ c.args.rounding +ℤ c.rounding_share_of.result) (pos (2 ^ 64)) = search rules in
-    let g_step = bound_step (input_of c.args.k.now) c.args.input c.args.rows.now n no_row _ _ _ _ low was p c.weight_of.ensures c.input_share_of.ensures.value in
-    let h_step = bound_step (rounding_of c.args.k.now) c.args.rounding c.args.rows.now n no_row _ _ _ _ low was q c.weight_of-in-loop-left.ensures c.rounding_share_of.ensures.value in
-    let g : c.loop-left.g +ℤ c.added-g.result ≡ bound (input_of c.args.k.now) c.args.input (drop n c.args.rows.now) = omega (arith, ints, g_now, g_step) in
-    let h : c.loop-left.h +ℤ c.added-h.result ≡ bound (rounding_of c.args.k.now) c.args.rounding (drop n c.args.rows.now) = omega (arith, ints, h_now, h_step) in
+    let g_step = bound_step (input_share_at c.args.k.now) c.args.input c.args.rows.now n no_row _ _ _ _ low was p c.weight_of.ensures c.input_share_of.ensures.value in
+    let h_step = bound_step (rounding_share_at c.args.k.now) c.args.rounding c.args.rows.now n no_row _ _ _ _ low was q c.weight_of-in-loop-left.ensures c.rounding_share_of.ensures.value in
+    let g : c.loop-left.g +ℤ c.added-g.result ≡ bound (input_share_at c.args.k.now) c.args.input (drop n c.args.rows.now) = omega (arith, ints, g_now, g_step) in
+    let h : c.loop-left.h +ℤ c.added-h.result ≡ bound (rounding_share_at c.args.k.now) c.args.rounding (drop n c.args.rows.now) = omega (arith, ints, h_now, h_step) in
     let fits_g : FitsSigned w128 (c.loop-left.g +ℤ c.added-g.result) = omega (arith, ints, c.loop-left.invariant.g_within.low, c.loop-left.invariant.g_within.high, c.added-g.ensures.within.low, c.added-g.ensures.within.high, c.requires.few, c.loop-left.g-is) in
     let fits_h : FitsSigned w128 (c.loop-left.h +ℤ c.added-h.result) = omega (arith, ints, c.loop-left.invariant.h_within.low, c.loop-left.invariant.h_within.high, c.added-h.ensures.within.low, c.added-h.ensures.within.high, c.requires.few, c.loop-left.h-is) in
     let fits_input : FitsSigned w128 c.args.input = c.ranges.input in

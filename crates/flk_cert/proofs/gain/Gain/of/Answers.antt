@@ -1,11 +1,11 @@
-use Rattle.std.proofs.Common.{rules, ◌≡◌, ℤ, pos, ◌+ℤ◌, ◌≤ℤ◌, ◌^◌, FitsSigned, to_z, of_z, refl, sym, subst}
+use Rattle.std.proofs.Common.{rules, ◌≡◌, ℤ, pos, ◌+ℤ◌, ◌≤ℤ◌, ◌^◌, FitsSigned, to_z, of_z, refl, sym, ap, subst}
 use Rattle.std.specs.Int.{w128}
 use Rattle.std.specs.Int.RustNames.{unsigned_abs}
 use Rattle.std.proofs.lemmas.Int.{to_z-of_z}
 use Rattle.flk_exact.specs.Rounding.{ceil_of}
 use Rattle.flk_cert.specs.declared.certificate.CertRow.{CertRow}
 use Rattle.flk_cert.specs.declared.fault.Cause.TheVariants.{Shape}
-use Rattle.flk_cert.specs.Certificate.{IsBound, row_at}
+use Rattle.flk_cert.specs.Certificate.{IsBound, HasRanges, row_at}
 use Rattle.flk_cert.specs.Bound.{Bounds, BoundsFirst, BoundsSecond, KeepsSecond}
 use Rattle.flk_cert.proofs.GainLemmas.{fits_bounds, fits_bounds_first, fits_bounds_second, fits_keeps_second}
 use Rattle.flk_cert.proofs.gain.Gain.of.Goals as goal
@@ -47,11 +47,17 @@ invariant_of-result c =
     let f3 : FitsSigned w128 second.h = search rules in
     let of_first = subst (λ (r : CertRow). BoundsFirst k r.g r.h) (sym c.row_at-first.ensures) (fits_bounds_first k rows fits) in
     let of_second = subst (λ (r : CertRow). BoundsSecond k r.g r.h) (sym c.row_at-second.ensures) (fits_bounds_second k rows fits) in
+    let low : HasRanges first = subst HasRanges (sym c.row_at-first.ensures) (fits Shape 0).range in
+    let high : HasRanges second = subst HasRanges (sym c.row_at-second.ensures) (fits Shape 1).range in
     let kept = subst (λ (r : CertRow). KeepsSecond k r.h) (sym c.row_at-second.ensures) (fits_keeps_second k rows fits) in
     record {
       input_natural = held (λ i r. pos 0 ≤ℤ i) input rounding fi fr c.input_gain.ensures.natural;
       rounding_natural = held (λ i r. pos 0 ≤ℤ r) input rounding fi fr c.rounding_gain.ensures.natural;
       rounding_small = held (λ i r. r ≤ℤ pos (2 ^ 29)) input rounding fi fr c.rounding_gain.ensures.small;
+      first_input_limits = held (λ g h. IsBound g) first.g first.h f0 f1 low.g;
+      first_rounding_limits = held (λ g h. IsBound h) first.g first.h f0 f1 low.h;
+      second_input_limits = held (λ g h. IsBound g) second.g second.h f2 f3 high.g;
+      second_rounding_limits = held (λ g h. IsBound h) second.g second.h f2 f3 high.h;
       bounds = held (λ i r. Bounds k i r) input rounding fi fr (fits_bounds k rows input rounding fits ei er);
       bounds_first = held (λ g h. BoundsFirst k g h) first.g first.h f0 f1 of_first;
       bounds_second = held (λ g h. BoundsSecond k g h) second.g second.h f2 f3 of_second;
@@ -71,8 +77,17 @@ returns c =
     let er : rounding ≡ pos 1 +ℤ ceil_of (row_at rows 0).h (pos (2 ^ 32)) = subst (λ (r : CertRow). rounding ≡ pos 1 +ℤ ceil_of r.h (pos (2 ^ 32))) c.row_at-first.ensures vr in
     let fi : FitsSigned w128 input = search rules in
     let fr : FitsSigned w128 rounding = search rules in
+    let second = c.row_at-second.result in
+    let f0 : FitsSigned w128 first.g = search rules in
+    let f1 : FitsSigned w128 first.h = search rules in
+    let f2 : FitsSigned w128 second.g = search rules in
+    let f3 : FitsSigned w128 second.h = search rules in
     record {
       coefs = refl;
       input = held (λ i r. i ≡ pos (unsigned_abs k.b0) +ℤ (row_at rows 0).g) input rounding fi fr ei;
       rounding = held (λ i r. r ≡ pos 1 +ℤ ceil_of (row_at rows 0).h (pos (2 ^ 32))) input rounding fi fr er;
+      first_input = held (λ g h. g ≡ (row_at rows 0).g) first.g first.h f0 f1 (ap (λ (r : CertRow). r.g) c.row_at-first.ensures);
+      first_rounding = held (λ g h. h ≡ (row_at rows 0).h) first.g first.h f0 f1 (ap (λ (r : CertRow). r.h) c.row_at-first.ensures);
+      second_input = held (λ g h. g ≡ (row_at rows 1).g) second.g second.h f2 f3 (ap (λ (r : CertRow). r.g) c.row_at-second.ensures);
+      second_rounding = held (λ g h. h ≡ (row_at rows 1).h) second.g second.h f2 f3 (ap (λ (r : CertRow). r.h) c.row_at-second.ensures);
     }
