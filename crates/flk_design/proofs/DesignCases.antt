@@ -1,4 +1,4 @@
--- Each lamp has a design.
+-- Each lamp has a design at each sampling rate.
 use Rattle.std.proofs.Common.{◌≡◌, ◌≤◌, ◌^◌, leb, true, List, [], ◌∷◌, ℤ, pos, neg_ℤ, ◌*ℤ◌, refl}
 use Rattle.std.specs.List.{AllZip}
 use Rattle.std.specs.Int.RustNames.{unsigned_abs}
@@ -7,9 +7,12 @@ use Rattle.flk_exact.specs.Fraction.{whole}
 use Rattle.flk_cert.specs.declared.coefs.Coefs.{Coefs}
 use Rattle.flk_num.specs.declared.lamp.Lamp.{Lamp}
 use Rattle.flk_num.specs.declared.lamp.Lamp.TheVariants.{L230, L120}
+use Rattle.flk_num.specs.declared.rate.Rate.{Rate}
+use Rattle.flk_num.specs.declared.rate.Rate.TheVariants.{R2400, R4800}
+use Rattle.flk_num.specs.Rate.{sampling_interval}
 use Rattle.flk_design.specs.Lamp.{constants_of}
 use Rattle.flk_design.specs.Analog.{AnalogSection, high_pass, low_pass, band_pass, lead_lag, lag, analog_sections}
-use Rattle.flk_design.specs.Design.{numerator, denominator, KeepsZeros, IsDigital, IsDesign, interval_2400}
+use Rattle.flk_design.specs.Design.{numerator, denominator, KeepsZeros, IsDigital, IsDesign}
 use Rattle.flk_design.specs.Nearest.{◌<ℚ◌}
 use Rattle.flk_design.proofs.Computed.{is_less}
 use Rattle.flk_design.proofs.NearestLemmas.{nearest_of, nearest_is}
@@ -99,8 +102,8 @@ digital_exist (a ∷ rest) h =
 computed : {a : AnalogSection} → is_less (whole (pos 0)) (denominator a).c0 → is_small (b0_of a) → is_small (b1_of a) → is_small (b2_of a) → is_small (a1_of a) → is_small (a2_of a) → HasCoefficients a
 computed d b0 b1 b2 a1 a2 = record { divisor = d; b0 = b0; b1 = b1; b2 = b2; a1 = a1; a2 = a2 }
 
-sections_have : (lamp : Lamp) → HaveCoefficients (analog_sections interval_2400 (constants_of lamp))
-sections_have L230 = (
+sections_have : (lamp : Lamp) (rate : Rate) → HaveCoefficients (analog_sections (sampling_interval rate) (constants_of lamp))
+sections_have L230 R2400 = (
   computed tt refl refl refl refl refl,
   (
     computed tt refl refl refl refl refl,
@@ -110,7 +113,27 @@ sections_have L230 = (
     ),
   ),
 )
-sections_have L120 = (
+sections_have L230 R4800 = (
+  computed tt refl refl refl refl refl,
+  (
+    computed tt refl refl refl refl refl,
+    (
+      computed tt refl refl refl refl refl,
+      (computed tt refl refl refl refl refl, (computed tt refl refl refl refl refl, (computed tt refl refl refl refl refl, (computed tt refl refl refl refl refl, tt)))),
+    ),
+  ),
+)
+sections_have L120 R2400 = (
+  computed tt refl refl refl refl refl,
+  (
+    computed tt refl refl refl refl refl,
+    (
+      computed tt refl refl refl refl refl,
+      (computed tt refl refl refl refl refl, (computed tt refl refl refl refl refl, (computed tt refl refl refl refl refl, (computed tt refl refl refl refl refl, tt)))),
+    ),
+  ),
+)
+sections_have L120 R4800 = (
   computed tt refl refl refl refl refl,
   (
     computed tt refl refl refl refl refl,
@@ -121,5 +144,5 @@ sections_have L120 = (
   ),
 )
 
-pub design_exists : (lamp : Lamp) → (sections : List Coefs) × IsDesign interval_2400 (constants_of lamp) sections
-design_exists lamp = digital_exist (analog_sections interval_2400 (constants_of lamp)) (sections_have lamp)
+pub design_exists : (lamp : Lamp) (rate : Rate) → (sections : List Coefs) × IsDesign (sampling_interval rate) (constants_of lamp) sections
+design_exists lamp rate = digital_exist (analog_sections (sampling_interval rate) (constants_of lamp)) (sections_have lamp rate)

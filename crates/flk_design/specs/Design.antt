@@ -2,7 +2,6 @@
 -- transform, the order of the sections and the rounding are this profile's own.
 use Rattle.std.specs.Prelude.{◌≡◌, List, pos, neg_ℤ, ◌*ℤ◌}
 use Rattle.std.specs.List.{AllZip}
-use Rattle.std.proofs.Common.{lit<}
 use Rattle.flk_exact.specs.Fraction.{Fraction, ◌+ℚ◌, ◌-ℚ◌, ◌*ℚ◌, whole}
 use Rattle.flk_cert.specs.declared.coefs.Coefs.{Coefs}
 use Rattle.flk_design.specs.Nearest.{IsNearestQuotient}
@@ -60,10 +59,6 @@ pub record IsDigital (a : AnalogSection) (k : Coefs) : Type 0 where
   pub zeros : KeepsZeros a k
   pub a1 : IsNearestQuotient (denominator a).c1 (denominator a).c0 k.a1
   pub a2 : IsNearestQuotient (denominator a).c2 (denominator a).c0 k.a2
-
--- the seconds between two samples at 2400 samples a second
-abbrev pub interval_2400 : Fraction
-interval_2400 = record { num = pos 1; den = 2400; positive = lit< tt }
 
 -- these are the digital sections of the lamp's filter, for samples that are T seconds apart
 abbrev pub IsDesign : Fraction → LampConstants → List Coefs → Type 0

@@ -1,6 +1,6 @@
 use Rattle.std.proofs.Common.{refl}
 use Rattle.flk_design.proofs.Computed.{nearest}
-use Rattle.flk_design.proofs.table.design.Goals as goal
+use Rattle.flk_design.proofs.rate_2400.design_2400.Goals as goal
 
 pub returns-in-L230 : goal.returns-in-L230
 returns-in-L230 c =
