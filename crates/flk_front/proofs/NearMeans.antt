@@ -11,10 +11,11 @@ use Rattle.std.proofs.Math.IntN.{*ℤ_comm}
 use Rattle.flk_exact.specs.Fraction.{Fraction, ◌≤ℚ◌, ◌≈ℚ◌, ◌+ℚ◌, size, whole}
 use Rattle.flk_exact.proofs.NumeratorLemmas.{IsOver, over_sum, over_times, over_product, over_size, over_at_most, at_most_over, natural_number, numerators, number}
 use Rattle.flk_num.specs.declared.interval.Interval.{Interval}
+use Rattle.flk_num.specs.Interval.{IsNear}
 use Rattle.flk_front.specs.declared.ends.Ends.{Ends}
 use Rattle.flk_front.specs.Adaptor.{IsNextMean, IsAdapted}
 use Rattle.flk_front.specs.Rounded.{squares_of, next_mean, mean_of}
-use Rattle.flk_front.specs.Width.{IsNear, square_reach}
+use Rattle.flk_front.specs.Width.{square_reach}
 use Rattle.flk_front.proofs.MeanSteps.{upper_near, lower_near}
 use Rattle.flk_front.proofs.SquareSteps.{floor_greatest, ceil_least, square_top, square_foot}
 use Rattle.flk_front.proofs.MeanLemmas.{powers, ceil_below, less, step, mean_natural}

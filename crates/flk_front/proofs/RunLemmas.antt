@@ -1,7 +1,8 @@
 -- All points of a list of intervals at once.
-use Rattle.std.proofs.Common.{◌≡◌, ℕ, suc, ◌+◌, ◌-◌, ◌*◌, ◌/◌, ◌^◌, ◌<◌, ◌≤◌, List, [], ◌∷◌, All, ap, arith}
+use Rattle.std.proofs.Common.{◌≡◌, ℕ, suc, ◌+◌, ◌-◌, ◌*◌, ◌/◌, ◌^◌, ◌<◌, ◌≤◌, List, [], ◌∷◌, All, ap, subst, ⊎_elim, arith}
 use Rattle.std.specs.Int.{div_ceil}
 use Rattle.std.specs.List.{AllZip}
+use Rattle.std.proofs.lemmas.Bool.{cases_lt}
 use Rattle.std.proofs.lemmas.Nat.{mul-le, pow_pos}
 use Rattle.std.proofs.lemmas.List.Elements.{All-cons}
 use Rattle.std.proofs.Math.Nat.{div-le_self, div-mul-le_self, mul-le-mul_left, mul-le-mul_right, lt_of_mul-lt-mul_right, le_of_mul-le-mul_right}
@@ -15,7 +16,7 @@ use Rattle.flk_front.specs.Adaptor.{IsAdapted}
 use Rattle.flk_front.specs.Rounded.{squares_of, next_mean, mean_of, divisor_of, newest_output, ArePoints}
 use Rattle.flk_front.specs.Front.{IsWithin}
 use Rattle.flk_front.specs.Width.{AreClose, CoversOutput}
-use Rattle.flk_front.proofs.SquareSteps.{ceil_within}
+use Rattle.flk_front.proofs.SquareSteps.{ceil_within, ceil_least, floor_greatest}
 use Rattle.flk_front.proofs.MeanLemmas.{ceil_below}
 use Rattle.flk_front.proofs.EnclosureLemmas.{point_encloses}
 use Rattle.flk_front.proofs.WidthLemmas.{point_is_narrow}
@@ -46,7 +47,7 @@ left_ordered k x y f g order ceil floor f_fits g_fits =
     let r = mul-le-mul_right k order in
     le_of_mul-le-mul_right {k = k + 1} (omega arith) (omega arith)
 
-next_ordered : (e : ℕ) (M q : Ends) → M.lo ≤ M.hi → q.lo ≤ q.hi → (next_mean e M q).lo ≤ (next_mean e M q).hi
+pub next_ordered : (e : ℕ) (M q : Ends) → M.lo ≤ M.hi → q.lo ≤ q.hi → (next_mean e M q).lo ≤ (next_mean e M q).hi
 next_ordered e M q order squares =
     let some : 0 < 2 ^ e = pow_pos e in
     let k = 2 ^ e - 1 in
@@ -58,6 +59,22 @@ next_ordered e M q order squares =
     let left = left_ordered k M.lo M.hi f g order (omega (arith, ceil_within M.lo (2 ^ e) some)) (omega (arith, div-mul-le_self M.hi (2 ^ e))) (ceil_below M.lo (2 ^ e) some) (div-le_self M.hi (2 ^ e)) in
     let part = floor_ceil q.lo q.hi (2 ^ (e - 16)) (2 ^ (e - 16)) (pow_pos (e - 16)) squares (omega arith) in
     omega arith
+
+-- ---- the mean stays small
+
+small_at_16 : (M q : Ends) → M.hi ≤ 17 * 2 ^ 64 → 2 * q.hi ≤ 33 * 2 ^ 48 → (next_mean 16 M q).hi ≤ 17 * 2 ^ 64
+small_at_16 M q mean square = omega (arith, mean, square, floor_greatest M.hi (2 ^ 16) (omega arith), ceil_least q.hi 1 (omega arith))
+
+small_at_17 : (M q : Ends) → M.hi ≤ 17 * 2 ^ 64 → 2 * q.hi ≤ 33 * 2 ^ 48 → (next_mean 17 M q).hi ≤ 17 * 2 ^ 64
+small_at_17 M q mean square = omega (arith, mean, square, floor_greatest M.hi (2 ^ 17) (omega arith), ceil_least q.hi 2 (omega arith))
+
+pub next_small : (e : ℕ) (M q : Ends) → 16 ≤ e → e ≤ 17 → M.hi ≤ 17 * 2 ^ 64 → 2 * q.hi ≤ 33 * 2 ^ 48 → (next_mean e M q).hi ≤ 17 * 2 ^ 64
+next_small e M q low high mean square =
+    let P : ℕ → Type 0 = λ n. (next_mean n M q).hi ≤ 17 * 2 ^ 64 in
+    ⊎_elim
+    (λ less. let same : 16 ≡ e = omega (arith, less, low) in subst P same (small_at_16 M q mean square))
+    (λ most. let same : 17 ≡ e = omega (arith, most, high) in subst P same (small_at_17 M q mean square))
+    (cases_lt e 17)
 
 mean_ordered : (e : ℕ) (vs : List Interval) → (mean_of e vs).lo ≤ (mean_of e vs).hi
 mean_ordered e [] = omega arith

@@ -10,11 +10,10 @@ use Rattle.std.proofs.Math.Nat.{div-mul-le_self, mul-le-mul_left, mul-le-mul_rig
 use Rattle.flk_exact.specs.Fraction.{Fraction, ◌≤ℚ◌, ◌-ℚ◌, size, units}
 use Rattle.flk_exact.proofs.NumeratorLemmas.{IsOver, over_units, over_difference, over_size, over_at_most}
 use Rattle.flk_num.specs.declared.interval.Interval.{Interval}
-use Rattle.flk_num.specs.Interval.{Holds}
+use Rattle.flk_num.specs.Interval.{Holds, IsNear}
 use Rattle.flk_num.specs.Square.{least_size, greatest_size}
 use Rattle.flk_num.proofs.SizeLemmas.{least_held, greatest_held}
 use Rattle.flk_front.specs.Rounded.{squares_of}
-use Rattle.flk_front.specs.Width.{IsNear}
 use Rattle.flk_front.proofs.PointSteps.{cases_le}
 
 -- ---- quotients of natural numbers

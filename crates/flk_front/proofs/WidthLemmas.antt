@@ -9,11 +9,12 @@ use Rattle.flk_exact.specs.Fraction.{Fraction, ◌≤ℚ◌, ◌+ℚ◌, ◌-ℚ
 use Rattle.flk_exact.proofs.WholeLemmas.{scale_≤, cancel_≤, ≤ℤ_trans, assoc-*ℤ}
 use Rattle.flk_exact.proofs.NumeratorLemmas.{IsOver, over_grow, over_units, over_whole, over_sum, over_difference, over_times, over_product, over_size, over_at_most, below_own, own_above, positive_over, as_natural, natural_number, numerators, number}
 use Rattle.flk_num.specs.declared.interval.Interval.{Interval}
+use Rattle.flk_num.specs.Interval.{IsNear, hundredth}
 use Rattle.flk_front.specs.declared.ends.Ends.{Ends}
 use Rattle.flk_front.specs.declared.point.Point.{Point}
 use Rattle.flk_front.specs.Adaptor.{divisor, IsAdapted}
 use Rattle.flk_front.specs.Rounded.{squares_of, mean_of, divisor_of, output_of, newest_output, IsPoint}
-use Rattle.flk_front.specs.Width.{IsNear, AreClose, CoversOutput, square_reach, hundredth}
+use Rattle.flk_front.specs.Width.{AreClose, CoversOutput, square_reach}
 use Rattle.flk_front.proofs.SquareSteps.{floor_greatest, ceil_least, square_top, square_foot}
 use Rattle.flk_front.proofs.PointSteps.{cases_le, top_of_point, foot_of_point, radius_here, radius_of_run, radius_bound, radius_wider}
 use Rattle.flk_front.proofs.MeanLemmas.{mean_natural}

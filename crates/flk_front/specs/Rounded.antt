@@ -1,22 +1,12 @@
--- The adaptor and the squaring in whole numbers. Two ends are kept of each value, and each is rounded away from the other, so that no
--- exact value is lost. Squares and outputs are in units of 2^-48, means and divisors in units of 2^-64. Lists have the newest value first.
--- `/` rounds down, and `div_ceil` up. The equations are the project's own.
-use Rattle.std.specs.Prelude.{◌≡◌, ℕ, ◌+◌, ◌-◌, ◌*◌, ◌/◌, ◌^◌, ◌≤◌, max, List, [], ◌∷◌, pos, ◌-ℤ◌}
+-- The adaptor and the squaring in whole numbers. Two ends are kept of each value, and each is rounded away from the
+-- other, so that no exact value is lost. Squares and outputs are in units of 2^-48, means and divisors in units of
+-- 2^-64. Lists have the newest value first. `/` rounds down, and `div_ceil` up. The equations are the project's own.
+use Rattle.std.specs.Prelude.{◌≡◌, ℕ, ◌+◌, ◌-◌, ◌*◌, ◌/◌, ◌^◌, max, List, [], ◌∷◌, pos, ◌-ℤ◌}
 use Rattle.std.specs.Int.{div_ceil}
-use Rattle.std.specs.Int.RustNames.{unsigned_abs}
 use Rattle.flk_num.specs.declared.interval.Interval.{Interval}
 use Rattle.flk_num.specs.Square.{least_size, greatest_size}
 use Rattle.flk_front.specs.declared.ends.Ends.{Ends}
 use Rattle.flk_front.specs.declared.point.Point.{Point}
-
--- the greatest size of an end of an interval that is taken: 4.02 times nominal, in units of 2^-48, rounded down
-abbrev pub greatest_end : ℕ
-greatest_end = 1131529406376837
-
--- the ends of v are not above it
-pub record IsSmall (v : Interval) : Type 0 where
-  pub low : unsigned_abs v.lo ≤ greatest_end
-  pub high : unsigned_abs v.hi ≤ greatest_end
 
 -- the least and the greatest square of a voltage of v
 abbrev pub squares_of : Interval → Ends
@@ -25,7 +15,8 @@ squares_of v = record {
   hi = div_ceil (greatest_size v.lo v.hi * greatest_size v.lo v.hi) (2 ^ 48);
 }
 
--- the mean after a sample: what is between the square and the mean before it counts for one part in 2^e, where e is at least 16
+-- the mean after a sample: what is between the square and the mean before it counts for one part in 2^e, where e is
+-- at least 16
 abbrev pub next_mean : ℕ → Ends → Ends → Ends
 next_mean e mean squares = record {
   lo = mean.lo - div_ceil mean.lo (2 ^ e) + squares.lo / 2 ^ (e - 16);

@@ -1,22 +1,14 @@
 -- How wide the points are.
 use Rattle.std.specs.Prelude.{List, drop, pos, ◌<ℤ◌}
 use Rattle.std.specs.List.{All, AllZip}
-use Rattle.std.proofs.Common.{lit<}
 use Rattle.flk_exact.specs.Fraction.{Fraction, ◌≤ℚ◌, ◌+ℚ◌, ◌-ℚ◌, ◌*ℚ◌, size, whole, units}
 use Rattle.flk_num.specs.declared.interval.Interval.{Interval}
+use Rattle.flk_num.specs.Interval.{IsNear, hundredth}
 use Rattle.flk_front.specs.Adaptor.{divisor}
 
--- both ends of v are at most w away from the voltage u
-pub record IsNear (w : Fraction) (v : Interval) (u : Fraction) : Type 0 where
-  pub low : size (units v.lo -ℚ u) ≤ℚ w
-  pub high : size (units v.hi -ℚ u) ≤ℚ w
-
-abbrev pub hundredth : Fraction
-hundredth = record { num = pos 1; den = 100; positive = lit< tt }
-
--- delta is from 2^-47 to `1/100 + 2^-47` (a unit is 2^-48); every voltage is within `delta - 2^-48` of both ends of its interval, and at
--- most a in size, which is at most 4; and r is positive and at most each number by which a square was divided. (The first of the means
--- is the newest: no square was divided by it yet.)
+-- delta is from 2^-47 to `1/100 + 2^-47` (a unit is 2^-48); every voltage is within `delta - 2^-48` of both ends of
+-- its interval, and at most a in size, which is at most 4; and r is positive and at most each number by which a
+-- square was divided. (The first of the means is the newest: no square was divided by it yet.)
 pub record AreClose (delta a r : Fraction) (vs : List Interval) (us means : List Fraction) : Type 0 where
   pub delta_low : units (pos 2) ≤ℚ delta
   pub delta_high : delta ≤ℚ (hundredth +ℚ units (pos 2))
@@ -30,6 +22,8 @@ pub record AreClose (delta a r : Fraction) (vs : List Interval) (us means : List
 abbrev pub square_reach : Fraction → Fraction → Fraction
 square_reach delta a = whole (pos 2) *ℚ a *ℚ delta +ℚ delta *ℚ delta
 
--- w is at least `2 * E * (1/r + a^2/r^2) + 2^-40`, where E is the reach of the squares: both sides times r^2. (2^-40 is 256 units.)
+-- w is at least `2 * E * (1/r + a^2/r^2) + 2^-40`, where E is the reach of the squares: both sides times r^2. (2^-40
+-- is 256 units.)
 pub record CoversOutput (delta a r w : Fraction) : Type 0 where
-  pub covers : (whole (pos 2) *ℚ square_reach delta a *ℚ (r +ℚ a *ℚ a) +ℚ units (pos 256) *ℚ (r *ℚ r)) ≤ℚ (w *ℚ (r *ℚ r))
+  pub covers : (whole (pos 2) *ℚ square_reach delta a *ℚ (r +ℚ a *ℚ a) +ℚ units (pos 256) *ℚ (r *ℚ r)) ≤ℚ (w *ℚ
+      (r *ℚ r))

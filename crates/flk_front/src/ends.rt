@@ -2,11 +2,10 @@
 
 ghost use Rattle.std.specs.Prelude.{◌≡◌, ◌*◌, ◌^◌, ◌≤◌};
 ghost use Rattle.std.specs.Int.{div_ceil};
-ghost use Rattle.flk_num.specs.Square.{least_size, greatest_size};
-ghost use Rattle.flk_front.specs.Adaptor.{exponent};
-ghost use Rattle.flk_front.specs.Rounded.{greatest_end, IsSmall, squares_of, next_mean, divisor_of, output_of};
+ghost use Rattle.flk_num.specs.Interval.{IsSmall};
+ghost use Rattle.flk_front.specs.Rounded.{squares_of, next_mean, divisor_of, output_of};
 
-use flk_num::{Interval, square_out};
+use flk_num::{Interval, exact_squares};
 
 /// A lower and an upper end, in one unit.
 #[derive(Clone, Copy, Debug, PartialEq, Eq)]
@@ -15,26 +14,8 @@ pub struct Ends {
     pub hi: u128,
 }
 
-// A sample counts for one part in 2^16 of the mean.
-const EXPONENT: u32 = 16;
-
 // 2^62, a quarter in units of 2^-64.
 const QUARTER: u128 = 4_611_686_018_427_387_904;
-
-// The least and the greatest square of a voltage of `v`, in units of 2^-96.
-fn exact_squares(v: Interval) -> Ends
-    requires { IsSmall v }
-    ensures least { result.lo ≡ least_size v.lo v.hi * least_size v.lo v.hi }
-    ensures greatest { result.hi ≡ greatest_size v.lo v.hi * greatest_size v.lo v.hi }
-    ensures ordered { result.lo ≤ result.hi }
-    ensures small { result.hi ≤ greatest_end * greatest_end }
-{
-    let squares = square_out(v);
-    Ends {
-        lo: squares.lo as u128,
-        hi: squares.hi as u128,
-    }
-}
 
 /// The least and the greatest square of a voltage of `v`, in units of 2^-48, rounded down and up.
 pub fn rounded_squares(v: Interval) -> Ends
@@ -45,13 +26,24 @@ pub fn rounded_squares(v: Interval) -> Ends
 {
     let squares = exact_squares(v);
     Ends {
-        lo: squares.lo >> 48,
-        hi: squares.hi.div_ceil(1 << 48),
+        lo: squares.least >> 48,
+        hi: squares.greatest.div_ceil(1 << 48),
     }
 }
 
-/// The mean after a sample with these squares, in units of 2^-64.
-pub fn mean_after(mean: Ends, squares: Ends) -> Ends
+// `x / 2^exponent`, rounded up. (A division by a number that isn't known beforehand would take long.)
+fn part_up(x: u128, exponent: u32) -> u128
+    requires small { x ≤ 17 * 2 ^ 64 }
+    requires exponent { exponent ≤ 17 }
+    ensures { result ≡ div_ceil x (2 ^ exponent) }
+{
+    (x + ((1 << exponent) - 1)) >> exponent
+}
+
+/// The mean after a sample with these squares, in units of 2^-64. A sample counts for one part in 2^exponent.
+pub fn mean_after(exponent: u32, mean: Ends, squares: Ends) -> Ends
+    requires exponent_low { 16 ≤ exponent }
+    requires exponent_high { exponent ≤ 17 }
     requires ordered { mean.lo ≤ mean.hi }
     requires small { mean.hi ≤ 17 * 2 ^ 64 }
     requires squares_ordered { squares.lo ≤ squares.hi }
@@ -60,9 +52,11 @@ pub fn mean_after(mean: Ends, squares: Ends) -> Ends
     ensures ordered { result.lo ≤ result.hi }
     ensures small { result.hi ≤ 17 * 2 ^ 64 }
 {
+    let least = squares.lo >> (exponent - 16);
+    let greatest = part_up(squares.hi, exponent - 16);
     Ends {
-        lo: mean.lo - mean.lo.div_ceil(1 << EXPONENT) + squares.lo,
-        hi: mean.hi - (mean.hi >> EXPONENT) + squares.hi,
+        lo: mean.lo - part_up(mean.lo, exponent) + least,
+        hi: mean.hi - (mean.hi >> exponent) + greatest,
     }
 }
 
@@ -89,8 +83,8 @@ fn dividend(square: u128) -> u128
     square << 64
 }
 
-// `dividend / divisor`, rounded up. Where it is below about 2^30, the quotient of their high parts is nearly always the one below it,
-// and a division of 128 bits is saved.
+// `dividend / divisor`, rounded up. Where it is below about 2^30, the quotient of their high parts is nearly always
+// the one below it, and a division of 128 bits is saved.
 fn small_quotient(dividend: u128, divisor: u128) -> u128
     requires low { 2 ^ 62 ≤ divisor }
     requires small { divisor ≤ 17 * 2 ^ 64 }

@@ -1,7 +1,7 @@
 //! Points that were computed by long arithmetic elsewhere.
 
 use crate::{Front, Point};
-use flk_num::Interval;
+use flk_num::{Interval, Rate};
 
 const ONE: Interval = Interval {
     lo: 281_474_976_710_656,
@@ -79,6 +79,23 @@ fn uncertain_voltages(rt: HostRuntime) {
         Point {
             mid: 281_444_575_045_560,
             radius: 34_696_713_247
+        }
+    );
+}
+
+#[test]
+fn uncertain_voltages_at_4800(rt: HostRuntime) {
+    let wide = Interval {
+        lo: -1_131_529_406_376_837,
+        hi: 1_131_529_406_376_837,
+    };
+    let mut front = Front::at(Rate::R4800);
+    front.push(wide);
+    assert_eq!(rt;
+        front.push(ONE),
+        Point {
+            mid: 281_459_773_987_736,
+            radius: 17_350_222_953
         }
     );
 }
