@@ -12,7 +12,7 @@ use Rattle.flk_cert.specs.declared.gain.Gain.{Gain}
 use Rattle.flk_cert.specs.Gain.{coefs_of}
 use Rattle.flk_cert.specs.RoundedSection.{state, output, outputs}
 use Rattle.flk_cert.specs.Section.{IsSection}
-use Rattle.flk_cert.specs.Bound.{MayStart, IsNear, AllNear}
+use Rattle.flk_cert.specs.Bound.{MayStart, IsInputNear as IsNear, AllNear}
 use Rattle.flk_cert.proofs.SectionLemmas.{outputs_exist, outputs_alike, all_alike}
 use Rattle.flk_design.specs.Lamp.{LampConstants}
 use Rattle.flk_design.specs.Design.{IsDesign}

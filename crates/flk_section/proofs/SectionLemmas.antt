@@ -18,7 +18,7 @@ use Rattle.flk_cert.specs.declared.gain.Gain.{Gain}
 use Rattle.flk_cert.specs.Gain.{coefs_of, input_of, rounding_of}
 use Rattle.flk_cert.specs.Section.{coefficient, newest, second_newest, input_before, IsSection}
 use Rattle.flk_cert.specs.RoundedSection.{outputs}
-use Rattle.flk_cert.specs.Bound.{StartsAtRest, MayStart, IsNear, AllNear, IsWithin}
+use Rattle.flk_cert.specs.Bound.{StartsAtRest, MayStart, IsInputNear as IsNear, AllNear, IsErrorWithin as IsWithin}
 use Rattle.flk_cert.proofs.RunLemmas.{over_coefficient, over_sum_of, sum_of, held_one}
 use Rattle.flk_cert.proofs.GainLemmas.{gain_bounds, gain_input_natural, gain_rounding_natural}
 use Rattle.flk_cert.proofs.PromiseLemmas.{bounds_each}

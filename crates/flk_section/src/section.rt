@@ -5,7 +5,7 @@ ghost use Rattle.std.specs.Int.RustNames.{unsigned_abs};
 ghost use Rattle.flk_exact.specs.Fraction.{Fraction, ◌≤ℚ◌, whole};
 ghost use Rattle.flk_cert.specs.Section.{IsSection};
 ghost use Rattle.flk_cert.specs.RoundedSection.{state as state_after_inputs, output};
-ghost use Rattle.flk_cert.specs.Bound.{StartsAtRest, AllNear, IsWithin};
+ghost use Rattle.flk_cert.specs.Bound.{StartsAtRest, AllNear, IsErrorWithin as IsWithin};
 ghost use Rattle.flk_cert.specs.Gain.{coefs_of, input_of, rounding_of};
 ghost use Rattle.flk_section.specs.Kept.{as_state, IsReached};
 

@@ -4,7 +4,7 @@ use Rattle.std.proofs.lemmas.Int.{to_z-of_z}
 use Rattle.flk_cert.specs.declared.coefs.Coefs.{Coefs}
 use Rattle.flk_cert.specs.Gain.{coefs_of, input_of, rounding_of}
 use Rattle.flk_cert.specs.RoundedSection.{State, state, output, after}
-use Rattle.flk_cert.specs.Bound.{IsWithin}
+use Rattle.flk_cert.specs.Bound.{IsErrorWithin as IsWithin}
 use Rattle.flk_cert.proofs.GainLemmas.{gain_bounds}
 use Rattle.flk_section.specs.Kept.{as_state, IsReached}
 use Rattle.flk_section.proofs.SectionLemmas.{may_start}
