@@ -19,7 +19,7 @@ OnErr-map (Err e) f p = f p
 
 -- ---- names
 
-equal_names : (xs ys : List ℕ) → bytes_eq xs ys ≡ true → xs ≡ ys
+pub equal_names : (xs ys : List ℕ) → bytes_eq xs ys ≡ true → xs ≡ ys
 equal_names xs ys e = search (rules, bytes_eq-Decides)
 
 is_false : (b : Bool) → ¬ (b ≡ true) → b ≡ false

@@ -10,9 +10,14 @@ one_more count = min (count + 1) (2 ^ 64 - 1)
 abbrev pub Rose : ℕ → ℕ → Type 0
 Rose before now = one_more before ≤ now
 
--- a count never falls, an Ok leaves it, and an error comes only where it rose
-pub record HasCause {T E : Type 0} (before now : ℕ) (result : Result T E) : Type 0 where
+-- a count goes on: it never falls, and at its end it stands still
+pub record CountsOn (before now : ℕ) : Type 0 where
   pub later : before ≤ now
+  pub stands : before ≡ 2 ^ 64 - 1 → now ≡ before
+
+-- a count goes on, an Ok leaves it, and an error comes only where it rose
+pub record HasCause {T E : Type 0} (before now : ℕ) (result : Result T E) : Type 0 where
+  pub count : CountsOn before now
   pub kept : OnOk result (now ≡ before)
   pub failed : OnErr result (Rose before now)
 

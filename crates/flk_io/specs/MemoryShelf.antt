@@ -1,8 +1,9 @@
 -- What a shelf in memory holds under its names, and how its calls go.
-use Rattle.std.specs.Prelude.{◌≡◌, ℕ, List}
+use Rattle.std.specs.Prelude.{◌≡◌, ℕ, List, Some}
 use Rattle.flk_io.specs.Causes.{AllStay}
 use Rattle.flk_io.specs.Files.{left_of, added_of, room_of}
 use Rattle.flk_io.specs.declared.memory_shelf.MemShelf.{MemShelf}
+use Rattle.flk_io.specs.Told.{ShelfTold}
 
 -- what is left to read under a name
 abbrev pub left_in : MemShelf → List ℕ → List ℕ
@@ -35,6 +36,15 @@ read_faults_in shelf = shelf.read_faults
 -- how many appends failed
 abbrev pub append_faults_in : MemShelf → ℕ
 append_faults_in shelf = shelf.append_faults
+
+-- what a shelf in memory tells: all that is left and all that was added
+abbrev pub memory_told : MemShelf → ShelfTold
+memory_told shelf = record {
+  left = λ name. Some (left_in shelf name);
+  added = λ name. Some (added_in shelf name);
+  read_faults = read_faults_in shelf;
+  append_faults = append_faults_in shelf;
+}
 
 -- the calls made and the calls to come stay as they were
 pub record CallsStay (old new : MemShelf) : Type 0 where

@@ -1,6 +1,7 @@
 -- What a sink in memory holds, and how its writes go.
-use Rattle.std.specs.Prelude.{ℕ, List}
+use Rattle.std.specs.Prelude.{ℕ, List, Some}
 use Rattle.flk_io.specs.declared.memory_sink.MemSink.{MemSink}
+use Rattle.flk_io.specs.Told.{SinkTold}
 
 -- what was written
 abbrev pub written_in : MemSink → List ℕ
@@ -25,3 +26,7 @@ sink_failing sink = sink.plan.failing.items
 -- how many writes failed
 abbrev pub sink_faults : MemSink → ℕ
 sink_faults sink = sink.faults
+
+-- what a sink in memory tells: all that was written
+abbrev pub sink_told : MemSink → SinkTold
+sink_told sink = record { written = Some (written_in sink); faults = sink_faults sink }

@@ -16,6 +16,7 @@ mod outside;
 mod place;
 mod plan;
 mod system;
+mod tries;
 mod whole;
 mod words;
 
@@ -24,7 +25,7 @@ pub use memory_sink::MemSink;
 pub use outside::{Failed, Shelf, Sink};
 pub use std::alloc::AllocError as OutOfMemory;
 pub use system::{FileShelf, StdSink};
-pub use whole::{ReadStop, read_all, write_all};
+pub use whole::{ReadStop, append_all, read_all, write_all};
 pub use words::Words;
 
 #[cfg(test)]

@@ -1,6 +1,7 @@
 // Named files in memory.
 ghost use Rattle.std.specs.Prelude.{◌≡◌, ◌↔◌, ◌⊎◌, ◌+◌, ◌-◌, ◌^◌, ◌<◌, ◌≤◌, ◌++◌, ◌∷◌, [], Some, List, ℕ, min, length, Contains, IfOk, OnOk, OnErr, IsErr};
 ghost use Rattle.flk_io.specs.Causes.{one_more, HasCause, OthersStay, AllStay, Takes, Adds};
+ghost use Rattle.flk_io.specs.Told.{OnlyReads, OnlyAppends};
 
 use crate::memory_file::File;
 use crate::memory_files::{added_to, append_to, make_room_in, put_to, read_from};
@@ -114,15 +115,9 @@ impl MemShelf {
 }
 
 impl Shelf for MemShelf {
-    ghost use Rattle.flk_io.specs.MemoryShelf.{left_in, added_in, room_in, shelf_most, shelf_calls, shelf_failing, read_faults_in, append_faults_in};
+    ghost use Rattle.flk_io.specs.MemoryShelf.{left_in, added_in, room_in, shelf_most, shelf_calls, shelf_failing, read_faults_in, append_faults_in, memory_told};
 
-    ghost left = { λ s name. Some (left_in s name) };
-
-    ghost added = { λ s name. Some (added_in s name) };
-
-    ghost read_faults = { read_faults_in };
-
-    ghost append_faults = { append_faults_in };
+    ghost told = { memory_told };
 
     /// Gives as many bytes as the greatest piece, the buffer and what is left allow. A read fails
     /// exactly where it is to fail.
@@ -130,9 +125,8 @@ impl Shelf for MemShelf {
         requires { 0 < length buf.old }
         ensures takes { Takes (Some (left_in self.old name.now)) (Some (left_in self.new name.now)) result buf.new }
         ensures others { OthersStay name.now (left_in self.old) (left_in self.new) }
-        ensures nothing_added { AllStay (added_in self.old) (added_in self.new) }
+        ensures only_reads { OnlyReads (memory_told self.old) (memory_told self.new) }
         ensures cause { HasCause (read_faults_in self.old) (read_faults_in self.new) result }
-        ensures append_faults { append_faults_in self.new ≡ append_faults_in self.old }
 
         ensures fails { IsErr result ↔ Contains (shelf_failing self.old) (one_more (shelf_calls self.old)) }
         ensures counted { OnErr result (read_faults_in self.new ≡ one_more (read_faults_in self.old)) }
@@ -155,9 +149,8 @@ impl Shelf for MemShelf {
         requires { 0 < length bytes.now }
         ensures adds { Adds (Some (added_in self.old name.now)) (Some (added_in self.new name.now)) result bytes.now }
         ensures others { OthersStay name.now (added_in self.old) (added_in self.new) }
-        ensures nothing_taken { AllStay (left_in self.old) (left_in self.new) }
+        ensures only_appends { OnlyAppends (memory_told self.old) (memory_told self.new) }
         ensures cause { HasCause (append_faults_in self.old) (append_faults_in self.new) result }
-        ensures read_faults { read_faults_in self.new ≡ read_faults_in self.old }
 
         ensures fails { IsErr result ↔ (Contains (shelf_failing self.old) (one_more (shelf_calls self.old)) ⊎ (room_in self.old name.now ≡ 0)) }
         ensures counted { OnErr result (append_faults_in self.new ≡ one_more (append_faults_in self.old)) }

@@ -72,11 +72,9 @@ impl MemSink {
 }
 
 impl Sink for MemSink {
-    ghost use Rattle.flk_io.specs.MemorySink.{written_in, sink_room, sink_most, sink_calls, sink_failing, sink_faults};
+    ghost use Rattle.flk_io.specs.MemorySink.{written_in, sink_room, sink_most, sink_calls, sink_failing, sink_faults, sink_told};
 
-    ghost written = { λ s. Some (written_in s) };
-
-    ghost faults = { sink_faults };
+    ghost told = { sink_told };
 
     /// Takes as many bytes as `most` and the place that is left allow. A write fails exactly where
     /// it is to fail or no place is left. It takes no memory.

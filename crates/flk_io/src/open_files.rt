@@ -1,13 +1,12 @@
 // The files that are open, by their paths.
-ghost use Rattle.std.specs.Prelude.{◌<◌, length, vec_len, IfSome, IfOk};
+ghost use Rattle.std.specs.Prelude.{◌≡◌, ◌<◌, length, [], map, Contains, IfSome, IfNone, IfOk, OnOk, slice_index_or};
+ghost use Rattle.std.specs.Io.{ReadsAtMost, WritesAtMost};
+ghost use Rattle.flk_io.specs.OpenFiles.{name_of, names_of, OpensOnce};
 
+use crate::tries::{read_some, write_some};
 use std::alloc::Global;
 use std::fs::File;
-use std::io::{Error, ErrorKind, Read, Write};
 use std::{fs, io};
-
-/// How often a call that a signal interrupted is made again.
-const TRIES: u32 = 1000;
 
 /// How a file is opened.
 #[derive(Clone, Copy)]
@@ -18,13 +17,37 @@ enum Opening {
     Empty,
 }
 
+/// A file and the path under which it was opened.
 #[derive(Drop)]
 struct OpenFile {
     name: String,
     file: File,
 }
 
-/// A table of open files.
+impl OpenFile {
+    /// Reads from the file, which is that of `name`.
+    fn read(&mut self, name: &str, buf: &mut [u8]) -> io::Result<usize>
+        requires named { name_of self.old ≡ name.now }
+        ensures bound { ReadsAtMost result buf.new }
+        ensures name { self.new.name ≡ self.old.name }
+    {
+        let _ = name;
+        read_some(&mut self.file, buf)
+    }
+
+    /// Writes at least one byte to the file, which is that of `name`.
+    fn write(&mut self, name: &str, bytes: &[u8]) -> io::Result<usize>
+        requires named { name_of self.old ≡ name.now }
+        ensures some { IfOk result (λ n. 0 < n) }
+        ensures bound { WritesAtMost result bytes.now }
+        ensures name { self.new.name ≡ self.old.name }
+    {
+        let _ = name;
+        write_some(&mut self.file, bytes)
+    }
+}
+
+/// A table of open files. No name stands in it twice.
 #[derive(Drop)]
 pub(crate) struct OpenFiles {
     alloc: Global,
@@ -32,7 +55,9 @@ pub(crate) struct OpenFiles {
 }
 
 impl OpenFiles {
-    pub(crate) fn new(alloc: Global) -> OpenFiles {
+    pub(crate) fn new(alloc: Global) -> OpenFiles
+        ensures { names_of result ≡ [] }
+    {
         OpenFiles {
             alloc,
             files: Vec::new(alloc),
@@ -40,31 +65,32 @@ impl OpenFiles {
     }
 
     /// Reads from the file of a name, which the first read opens.
-    pub(crate) fn read(
-        &mut self,
-        rt: &HostRuntime,
-        name: &str,
-        buf: &mut [u8],
-    ) -> io::Result<usize> {
+    pub(crate) fn read(&mut self, rt: &HostRuntime, name: &str, buf: &mut [u8]) -> io::Result<usize>
+        ensures bound { ReadsAtMost result buf.new }
+        ensures opened { OnOk result (Contains (names_of self.new) name.now) }
+        ensures once { OpensOnce name.now (names_of self.old) (names_of self.new) }
+    {
         let i = self.find_or_open(rt, name, Opening::ToRead)?;
-        read_some(&mut self.files[i].file, buf)
+        self.files[i].read(name, buf)
     }
 
-    /// Writes to the file of a name, which the first write makes empty.
-    pub(crate) fn append(
-        &mut self,
-        rt: &HostRuntime,
-        name: &str,
-        bytes: &[u8],
-    ) -> io::Result<usize> {
+    /// Writes at least one byte to the file of a name, which the first call makes empty.
+    pub(crate) fn append(&mut self, rt: &HostRuntime, name: &str, bytes: &[u8]) -> io::Result<usize>
+        ensures some { IfOk result (λ n. 0 < n) }
+        ensures bound { WritesAtMost result bytes.now }
+        ensures opened { OnOk result (Contains (names_of self.new) name.now) }
+        ensures once { OpensOnce name.now (names_of self.old) (names_of self.new) }
+    {
         let i = self.find_or_open(rt, name, Opening::Empty)?;
-        write_some(&mut self.files[i].file, bytes)
+        self.files[i].write(name, bytes)
     }
 
     /// Where the file of a name is. The memory for one more file is taken before it is opened: with
     /// none, no bytes are taken from the file, and it isn't made empty twice.
     fn find_or_open(&mut self, rt: &HostRuntime, name: &str, opening: Opening) -> io::Result<usize>
-        ensures { IfOk result (λ i. i < vec_len self.new.files) }
+        ensures within { IfOk result (λ i. i < length self.new.files.items) }
+        ensures named { IfOk result (λ i. slice_index_or (names_of self.new) i [] ≡ name.now) }
+        ensures once { OpensOnce name.now (names_of self.old) (names_of self.new) }
     {
         if let Some(i) = place(&self.files, name) {
             return Ok(i);
@@ -82,7 +108,9 @@ impl OpenFiles {
 }
 
 fn place(files: &[OpenFile], name: &str) -> Option<usize>
-    ensures { IfSome result (λ i. i < length files.now) }
+    ensures within { IfSome result (λ i. i < length files.now) }
+    ensures named { IfSome result (λ i. slice_index_or (map name_of files.now) i [] ≡ name.now) }
+    ensures none { IfNone result (¬ Contains (map name_of files.now) name.now) }
 {
     for (i, open) in files.iter().enumerate() {
         if open.name.as_str() == name {
@@ -90,26 +118,4 @@ fn place(files: &[OpenFile], name: &str) -> Option<usize>
         }
     }
     None
-}
-
-/// Reads once, and again where a signal interrupted the call.
-fn read_some<R: Read>(from: &mut R, buf: &mut [u8]) -> io::Result<usize> {
-    for _ in 0..TRIES {
-        match from.read(buf) {
-            Err(error) if error.kind() == ErrorKind::Interrupted => {}
-            answer => return answer,
-        }
-    }
-    Err(Error::from(ErrorKind::Interrupted))
-}
-
-/// Writes once, and again where a signal interrupted the call.
-pub(crate) fn write_some<W: Write>(to: &mut W, bytes: &[u8]) -> io::Result<usize> {
-    for _ in 0..TRIES {
-        match to.write(bytes) {
-            Err(error) if error.kind() == ErrorKind::Interrupted => {}
-            answer => return answer,
-        }
-    }
-    Err(Error::from(ErrorKind::Interrupted))
 }

@@ -1,11 +1,30 @@
 // The files and the standard output of the system, of whose content nothing is told.
-ghost use Rattle.std.specs.Prelude.{◌≡◌, ◌<◌, None, length, OnErr};
+ghost use Rattle.std.specs.Prelude.{◌≡◌, ◌<◌, [], None, length, Contains, Ok, IfOk, OnOk, OnErr, IsErr};
 ghost use Rattle.flk_io.specs.Causes.{one_more, HasCause, Takes, Adds};
+ghost use Rattle.flk_io.specs.OpenFiles.{OpensOnce};
+ghost use Rattle.flk_io.specs.Told.{OnlyReads, OnlyAppends};
 
-use crate::open_files::{OpenFiles, write_some};
+use crate::open_files::OpenFiles;
+use crate::tries::write_some;
 use crate::{Failed, Shelf, Sink};
 use std::alloc::Global;
 use std::io;
+
+// The answer of the system, which is told of an error only that the call failed, and counts it.
+fn counted(answer: io::Result<usize>, faults: &mut u64) -> Result<usize, Failed>
+    ensures ok { IfOk answer (λ n. result ≡ Ok n) }
+    ensures err { OnErr answer (IsErr result) }
+    ensures cause { HasCause faults.old faults.new result }
+    ensures counted { OnErr result (faults.new ≡ one_more faults.old) }
+{
+    match answer {
+        Ok(count) => Ok(count),
+        Err(_) => {
+            *faults = faults.saturating_add(1);
+            Err(Failed)
+        }
+    }
+}
 
 /// Files by their paths. The first read of a name opens its file, and the first append makes it
 /// empty. A file that can't be opened, an error of the system, and want of memory for a name are
@@ -20,12 +39,14 @@ pub struct FileShelf<'a> {
 }
 
 impl<'a> FileShelf<'a> {
-    ghost use Rattle.flk_io.specs.System.{file_read_faults, file_append_faults};
+    ghost use Rattle.flk_io.specs.System.{file_read_faults, file_append_faults, opened_to_read, opened_to_add};
 
     /// No file is open yet.
     pub fn new(rt: &'a HostRuntime, alloc: Global) -> FileShelf<'a>
         ensures read_faults { file_read_faults result ≡ 0 }
         ensures append_faults { file_append_faults result ≡ 0 }
+        ensures opened_to_read { opened_to_read result ≡ [] }
+        ensures opened_to_add { opened_to_add result ≡ [] }
     {
         FileShelf {
             rt,
@@ -38,47 +59,37 @@ impl<'a> FileShelf<'a> {
 }
 
 impl<'a> Shelf for FileShelf<'a> {
-    ghost use Rattle.flk_io.specs.System.{file_read_faults, file_append_faults};
+    ghost use Rattle.flk_io.specs.System.{file_read_faults, file_append_faults, opened_to_read, opened_to_add, shelf_told};
 
-    ghost left = { λ _ _. None };
-
-    ghost added = { λ _ _. None };
-
-    ghost read_faults = { file_read_faults };
-
-    ghost append_faults = { file_append_faults };
+    ghost told = { shelf_told };
 
     fn read(&mut self, name: &str, buf: &mut [u8]) -> Result<usize, Failed>
         requires { 0 < length buf.old }
         ensures takes { Takes None None result buf.new }
+        ensures only_reads { OnlyReads (shelf_told self.old) (shelf_told self.new) }
         ensures cause { HasCause (file_read_faults self.old) (file_read_faults self.new) result }
-        ensures append_faults { file_append_faults self.new ≡ file_append_faults self.old }
         ensures counted { OnErr result (file_read_faults self.new ≡ one_more (file_read_faults self.old)) }
+        ensures opened { OnOk result (Contains (opened_to_read self.new) name.now) }
+        ensures once { OpensOnce name.now (opened_to_read self.old) (opened_to_read self.new) }
+        ensures not_to_add { opened_to_add self.new ≡ opened_to_add self.old }
     {
-        let asked = buf.len();
-        match self.reading.read(self.rt, name, buf) {
-            Ok(count) if count <= asked => Ok(count),
-            _ => {
-                self.read_faults = self.read_faults.saturating_add(1);
-                Err(Failed)
-            }
-        }
+        counted(self.reading.read(self.rt, name, buf), &mut self.read_faults)
     }
 
     fn append(&mut self, name: &str, bytes: &[u8]) -> Result<usize, Failed>
         requires { 0 < length bytes.now }
         ensures adds { Adds None None result bytes.now }
+        ensures only_appends { OnlyAppends (shelf_told self.old) (shelf_told self.new) }
         ensures cause { HasCause (file_append_faults self.old) (file_append_faults self.new) result }
-        ensures read_faults { file_read_faults self.new ≡ file_read_faults self.old }
         ensures counted { OnErr result (file_append_faults self.new ≡ one_more (file_append_faults self.old)) }
+        ensures opened { OnOk result (Contains (opened_to_add self.new) name.now) }
+        ensures once { OpensOnce name.now (opened_to_add self.old) (opened_to_add self.new) }
+        ensures not_to_read { opened_to_read self.new ≡ opened_to_read self.old }
     {
-        match self.adding.append(self.rt, name, bytes) {
-            Ok(count) if count > 0 && count <= bytes.len() => Ok(count),
-            _ => {
-                self.append_faults = self.append_faults.saturating_add(1);
-                Err(Failed)
-            }
-        }
+        counted(
+            self.adding.append(self.rt, name, bytes),
+            &mut self.append_faults,
+        )
     }
 }
 
@@ -101,11 +112,9 @@ impl<'a> StdSink<'a> {
 }
 
 impl<'a> Sink for StdSink<'a> {
-    ghost use Rattle.flk_io.specs.System.{output_faults};
+    ghost use Rattle.flk_io.specs.System.{output_faults, output_told};
 
-    ghost written = { λ _. None };
-
-    ghost faults = { output_faults };
+    ghost told = { output_told };
 
     fn write(&mut self, bytes: &[u8]) -> Result<usize, Failed>
         requires { 0 < length bytes.now }
@@ -113,12 +122,9 @@ impl<'a> Sink for StdSink<'a> {
         ensures cause { HasCause (output_faults self.old) (output_faults self.new) result }
         ensures counted { OnErr result (output_faults self.new ≡ one_more (output_faults self.old)) }
     {
-        match write_some(&mut io::writer(self.rt), bytes) {
-            Ok(count) if count > 0 && count <= bytes.len() => Ok(count),
-            _ => {
-                self.faults = self.faults.saturating_add(1);
-                Err(Failed)
-            }
-        }
+        counted(
+            write_some(&mut io::writer(self.rt), bytes),
+            &mut self.faults,
+        )
     }
 }

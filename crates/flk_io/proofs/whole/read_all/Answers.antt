@@ -9,5 +9,5 @@ returns-then-count-eq0-clause-all g c =
 pub returns-in-Err-extend_from_slice-clause-front : goal.returns-in-Err-extend_from_slice-clause-front
 returns-in-Err-extend_from_slice-clause-front g c =
     let small : length c.loop-piece.bytes.items + c.in-Ok.count ≤ c.args.limit + 1 = search (rules, c.in-Ok.ensures.takes.0, c.min-room.ensures) in
-    TakesFront-more (g.F.Shelf.left c.args.shelf.now c.args.name.now) (g.F.Shelf.left c.loop-piece.shelf c.args.name.now) (g.F.Shelf.left c.read.new.self c.args.name.now)
+    TakesFront-more ((g.F.Shelf.told c.args.shelf.now).left c.args.name.now) ((g.F.Shelf.told c.loop-piece.shelf).left c.args.name.now) ((g.F.Shelf.told c.read.new.self).left c.args.name.now)
     c.loop-piece.bytes.items c.read.new.buf c.in-Ok.count (c.args.limit + 1) c.loop-piece.invariant.front c.in-Ok.ensures.takes.1 small
