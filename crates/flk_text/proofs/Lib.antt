@@ -7,3 +7,4 @@ pub mod DecimalLaws
 pub mod TextCases
 pub mod LineLaws
 pub mod WrittenLaws
+pub mod BillionthsLemmas

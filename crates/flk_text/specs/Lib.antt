@@ -8,3 +8,4 @@ pub mod PlainText
 pub mod NumeralParts
 pub mod NumeralView
 pub mod DigitsRead
+pub mod Billionths

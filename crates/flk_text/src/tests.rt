@@ -1,5 +1,6 @@
 use crate::{
-    DecimalValue, Lines, NumFault, decimal, field, field_count, is_tail, push_decimal, whole,
+    Billionths, DecimalValue, Ends, Lines, NumFault, decimal, field, field_count, is_tail,
+    push_decimal, whole,
 };
 use std::test::Fail;
 
@@ -135,4 +136,26 @@ fn cuts_fields(rt: HostRuntime) {
     assert_eq!(rt; field(line, 6), None);
     assert_eq!(rt; field_count(b""), 1);
     assert_eq!(rt; field(b"", 1), Some(b"".as_slice()));
+}
+
+#[test]
+fn prints_billionths(rt: HostRuntime) -> Result<(), Fail> {
+    for (value, text) in [
+        (0, "0.000000000"),
+        (4, "0.000000004"),
+        (33_000_000, "0.033000000"),
+        (1_000_000_000, "1.000000000"),
+        (12_345_678_900_000_000_001, "12345678900.000000001"),
+    ] {
+        assert_eq!(rt;
+            format!(in rt.alloc(); "{}", Billionths(value))?.as_str(),
+            text
+        );
+    }
+    let ends = Ends(999_999_999, 1_000_000_001);
+    assert_eq!(rt;
+        format!(in rt.alloc(); "{ends}")?.as_str(),
+        "0.999999999 to 1.000000001"
+    );
+    Ok(())
 }
