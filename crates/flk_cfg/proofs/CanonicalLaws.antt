@@ -5,17 +5,18 @@ use Rattle.std.specs.Fmt.{decimal}
 use Rattle.std.proofs.lemmas.Fmt.{decimal_digit}
 use Rattle.std.proofs.lemmas.List.{drop_all, get_or_append_left, get_or-append-add}
 use Rattle.std.proofs.lemmas.List.Elements.{All-head, All-tail}
+use Rattle.flk_num.specs.declared.rate.Rate.{Rate}
+use Rattle.flk_num.specs.declared.rate.Rate.TheVariants.{R2400, R4800}
 use Rattle.flk_text.specs.Numeral.{Numeral, IsNumeral}
-use Rattle.flk_text.specs.Decimal.{IsDecimal, IsInSet}
+use Rattle.flk_text.specs.Decimal.{IsInSet}
 use Rattle.flk_text.specs.PlainText.{plain}
 use Rattle.flk_text.proofs.PlainTextLemmas.{plain_text}
-use Rattle.flk_cfg.specs.Values.{IsFormWord, IsWholeFrom}
-use Rattle.flk_cfg.specs.Table.{rate_units}
+use Rattle.flk_cfg.specs.Values.{IsFormWord, IsWholeFrom, IsRate}
 use Rattle.flk_cfg.specs.Rows.{IsTitle, IsCounts, IsAnalog, IsDigital, IsLineFrequency, IsOneRate, IsSampling, IsStamp, IsFileType, IsMultiplier}
 use Rattle.flk_cfg.specs.Places.{HasLine}
 use Rattle.flk_cfg.specs.File.{AreAnalogs, AreDigitals, AreSettings, IsConfig}
 use Rattle.flk_cfg.specs.Valid.{IsValue, IsValidAnalog, IsValidDigital, IsValidStamp, IsValid}
-use Rattle.flk_cfg.specs.Canonical.{form_text, title_fields, counts_fields, analog_fields, digital_fields, analog_lines, digital_lines, stamp_fields, setting_lines, all_lines, lines_text, canonical}
+use Rattle.flk_cfg.specs.Canonical.{form_text, rate_text, title_fields, counts_fields, analog_fields, digital_fields, analog_lines, digital_lines, stamp_fields, setting_lines, all_lines, lines_text, canonical}
 use Rattle.flk_cfg.specs.declared.config.Analog.{Analog}
 use Rattle.flk_cfg.specs.declared.config.Digital.{Digital}
 use Rattle.flk_cfg.specs.declared.config.Config.{Config}
@@ -72,15 +73,25 @@ form_is : (form : Form) → IsFormWord (form_text form) form
 form_is Ascii = refl
 form_is Binary = refl
 
-rate_is : IsDecimal (codes "2400") rate_units
-rate_is =
+-- four digits with two zeros at their end, which are a rate
+rate_is : (rate : Rate) → IsRate (rate_text rate) rate
+rate_is R2400 =
     let numeral : Numeral = record { minus = false; whole = codes "2400"; fraction = []; right = 0; left = 0 } in
     let spelled : IsNumeral (codes "2400") numeral = record { sign = []; fraction = []; exponent = []; text_is = refl; sign_is = inl (refl, refl); whole_is = refl; fraction_is = inl (refl, refl); some = omega arith; exponent_is = inl (refl, refl, refl) } in
     let inside : IsInSet (2400 * 10 ^ 24) = record { m = 24; places = 26; is = refl; reduced = inr (λ e. absurd (omega (arith, e))); digits = omega arith; most = omega arith } in
     record { numeral = numeral; units = 2400 * 10 ^ 24; spelled = spelled; value = refl; inside = inside; signed_is = refl }
+rate_is R4800 =
+    let numeral : Numeral = record { minus = false; whole = codes "4800"; fraction = []; right = 0; left = 0 } in
+    let spelled : IsNumeral (codes "4800") numeral = record { sign = []; fraction = []; exponent = []; text_is = refl; sign_is = inl (refl, refl); whole_is = refl; fraction_is = inl (refl, refl); some = omega arith; exponent_is = inl (refl, refl, refl) } in
+    let inside : IsInSet (4800 * 10 ^ 24) = record { m = 48; places = 26; is = refl; reduced = inr (λ e. absurd (omega (arith, e))); digits = omega arith; most = omega arith } in
+    record { numeral = numeral; units = 4800 * 10 ^ 24; spelled = spelled; value = refl; inside = inside; signed_is = refl }
 
-sampling_is : (n : ℕ) → 1 ≤ n → n < 2 ^ 32 → IsSampling (codes "2400" ∷ decimal n ∷ []) n
-sampling_is n some few = record { count = refl; rate = rate_is; samples = whole_is 1 (2 ^ 32 - 1) n some (omega (arith, few)) (omega (arith, few)) }
+rate_free : (rate : Rate) → IsFree (rate_text rate)
+rate_free R2400 = record { comma = refl; space = refl; lf = refl; mark = refl }
+rate_free R4800 = record { comma = refl; space = refl; lf = refl; mark = refl }
+
+sampling_is : (rate : Rate) (n : ℕ) → 1 ≤ n → n < 2 ^ 32 → IsSampling (rate_text rate ∷ decimal n ∷ []) rate n
+sampling_is rate n some few = record { count = refl; rate_is = rate_is rate; samples = whole_is 1 (2 ^ 32 - 1) n some (omega (arith, few)) (omega (arith, few)) }
 
 -- ---- each line's fields stand as they are
 
@@ -149,13 +160,12 @@ stamp_cells s v = (free_cell _ (date_free s v), (free_cell _ (time_free s v), tt
 settings_are : (c : Config) → IsValid c → AreLines (setting_lines c)
 settings_are c v =
     let one : IsFree (codes "1") = record { comma = refl; space = refl; lf = refl; mark = refl } in
-    let rate : IsFree (codes "2400") = record { comma = refl; space = refl; lf = refl; mark = refl } in
     let samples = free_cell _ (free_decimal c.endsamp (omega (arith, v.endsamp_most))) in (
       (omega arith, (value_cell c.lf.n v.lf, tt)),
       (
         (omega arith, (free_cell _ one, tt)),
         (
-          (omega arith, (free_cell _ rate, (samples, tt))),
+          (omega arith, (free_cell _ (rate_free c.rate), (samples, tt))),
           (
             (omega arith, stamp_cells c.first v.first),
             (
@@ -272,7 +282,7 @@ settings_written c v =
     record {
       frequency = setting_line c 0 k _ (λ parts. IsLineFrequency parts c.lf.n) are (omega arith) (omega arith) refl frequency;
       rates = setting_line c 1 (k + 1) _ IsOneRate are (omega arith) (omega arith) refl one;
-      sampling = setting_line c 2 (k + 2) _ (λ parts. IsSampling parts c.endsamp) are (omega arith) (omega arith) refl (sampling_is c.endsamp v.endsamp_some (omega (arith, v.endsamp_most)));
+      sampling = setting_line c 2 (k + 2) _ (λ parts. IsSampling parts c.rate c.endsamp) are (omega arith) (omega arith) refl (sampling_is c.rate c.endsamp v.endsamp_some (omega (arith, v.endsamp_most)));
       first = setting_line c 3 (k + 3) _ (λ parts. IsStamp parts c.first) are (omega arith) (omega arith) refl (stamp_is c.first v.first);
       trigger = setting_line c 4 (k + 4) _ (λ parts. IsStamp parts c.trigger) are (omega arith) (omega arith) refl (stamp_is c.trigger v.trigger);
       file_type = setting_line c 5 (k + 5) _ (λ parts. IsFileType parts c.form) are (omega arith) (omega arith) refl form;

@@ -1,7 +1,11 @@
 -- Bytes write at most one configuration, and none where they have a first fault.
 use Rattle.std.proofs.Common.{◌≡◌, ℕ, ◌+◌, List, length, get_or, refl, sym, ap, subst, ◌∙◌, arith, inl, inr, ℤ, pos, Bool}
+use Rattle.std.proofs.lemmas.Int.{ints}
 use Rattle.std.proofs.lemmas.List.{ext_get_or}
+use Rattle.flk_num.specs.declared.rate.Rate.{Rate}
+use Rattle.flk_num.specs.declared.rate.Rate.TheVariants.{R2400, R4800}
 use Rattle.flk_text.proofs.NumeralLemmas.{decimal_once}
+use Rattle.flk_cfg.specs.Values.{IsRate}
 use Rattle.flk_cfg.specs.Table.{IsGoodLine, title_row, at}
 use Rattle.flk_cfg.specs.Rows.{IsTitle, IsCounts, IsAnalog, IsDigital, IsLineFrequency, IsSampling, IsStamp, IsFileType, IsMultiplier, TitleFault, CountsFault}
 use Rattle.flk_cfg.specs.Places.{HasLine}
@@ -24,7 +28,7 @@ use Rattle.flk_cfg.proofs.LineLaws.{one_line, one_last_line, line_or_fault, titl
 -- ---- a configuration has no fault
 
 settings_of : Config → Settings
-settings_of c = record { lf = c.lf; endsamp = c.endsamp; first = c.first; trigger = c.trigger; form = c.form }
+settings_of c = record { lf = c.lf; rate = c.rate; endsamp = c.endsamp; first = c.first; trigger = c.trigger; form = c.form }
 
 lines_of : (bytes : List ℕ) (k : ℕ) (c : Config) → AreSettings bytes k c → AreSettingLines bytes k (settings_of c)
 unfolding settings_of
@@ -133,32 +137,41 @@ one_stamp fs s t p q =
     let year : s.year ≡ t.year = p.date.year_is ∙ ap (λ (n : ℕ). pos n) date.2 ∙ sym q.date.year_is in
     same_stamp s.year s.month s.day s.hour s.minute s.second s.nanos t.year t.month t.day t.hour t.minute t.second t.nanos year date.1 date.0 time.0 time.1 time.2 time.3
 
-abbrev config_of : List ℕ → List ℕ → List Analog → List Digital → DecimalValue → ℕ → Stamp → Stamp → Form → DecimalValue → Config
-config_of station device analog digital lf endsamp first trigger form timemult =
-    record { station = station; device = device; analog = analog; digital = digital; lf = lf; endsamp = endsamp; first = first; trigger = trigger; form = form; timemult = timemult }
+abbrev config_of : List ℕ → List ℕ → List Analog → List Digital → DecimalValue → Rate → ℕ → Stamp → Stamp → Form → DecimalValue → Config
+config_of station device analog digital lf rate endsamp first trigger form timemult =
+    record { station = station; device = device; analog = analog; digital = digital; lf = lf; rate = rate; endsamp = endsamp; first = first; trigger = trigger; form = form; timemult = timemult }
 
-same_config : (s1 d1 : List ℕ) (a1 : List Analog) (g1 : List Digital) (l1 : DecimalValue) (e1 : ℕ) (f1 t1 : Stamp) (w1 : Form) (m1 : DecimalValue)
-    (s2 d2 : List ℕ) (a2 : List Analog) (g2 : List Digital) (l2 : DecimalValue) (e2 : ℕ) (f2 t2 : Stamp) (w2 : Form) (m2 : DecimalValue)
-    → s1 ≡ s2 → d1 ≡ d2 → a1 ≡ a2 → g1 ≡ g2 → l1 ≡ l2 → e1 ≡ e2 → f1 ≡ f2 → t1 ≡ t2 → w1 ≡ w2 → m1 ≡ m2
-    → config_of s1 d1 a1 g1 l1 e1 f1 t1 w1 m1 ≡ config_of s2 d2 a2 g2 l2 e2 f2 t2 w2 m2
-same_config s1 d1 a1 g1 l1 e1 f1 t1 w1 m1 s2 d2 a2 g2 l2 e2 f2 t2 w2 m2 es ed ea eg el ee ef et ew em = cc
+same_config : (s1 d1 : List ℕ) (a1 : List Analog) (g1 : List Digital) (l1 : DecimalValue) (r1 : Rate) (e1 : ℕ) (f1 t1 : Stamp) (w1 : Form) (m1 : DecimalValue)
+    (s2 d2 : List ℕ) (a2 : List Analog) (g2 : List Digital) (l2 : DecimalValue) (r2 : Rate) (e2 : ℕ) (f2 t2 : Stamp) (w2 : Form) (m2 : DecimalValue)
+    → s1 ≡ s2 → d1 ≡ d2 → a1 ≡ a2 → g1 ≡ g2 → l1 ≡ l2 → r1 ≡ r2 → e1 ≡ e2 → f1 ≡ f2 → t1 ≡ t2 → w1 ≡ w2 → m1 ≡ m2
+    → config_of s1 d1 a1 g1 l1 r1 e1 f1 t1 w1 m1 ≡ config_of s2 d2 a2 g2 l2 r2 e2 f2 t2 w2 m2
+same_config s1 d1 a1 g1 l1 r1 e1 f1 t1 w1 m1 s2 d2 a2 g2 l2 r2 e2 f2 t2 w2 m2 es ed ea eg el er ee ef et ew em = cc
 
 -- both lines at one place write one value
 both_lines : {A : Type 0} (bytes : List ℕ) (k : ℕ) (P : List (List ℕ) → A → Type 0) (x y : A) → ((fs : List (List ℕ)) → P fs x → P fs y → x ≡ y)
     → HasLine bytes k (λ fs. P fs x) → HasLine bytes k (λ fs. P fs y) → x ≡ y
 both_lines {A} bytes k P x y one a b = one b.0 (subst (λ (fs : List (List ℕ)). P fs x) (one_line bytes k a.0 b.0 a.1 b.1) a.2) b.2
 
+-- a field writes one rate
+rate_once : (f : List ℕ) (r s : Rate) → IsRate f r → IsRate f s → r ≡ s
+rate_once f R2400 R2400 a b = refl
+rate_once f R2400 R4800 a b = absurd (omega (arith, ints, decimal_once f _ _ a b))
+rate_once f R4800 R2400 a b = absurd (omega (arith, ints, decimal_once f _ _ a b))
+rate_once f R4800 R4800 a b = refl
+
 one_settings : (bytes : List ℕ) (k : ℕ) (c d : Config) → c.station ≡ d.station → c.device ≡ d.device → c.analog ≡ d.analog → c.digital ≡ d.digital → AreSettings bytes k c → AreSettings bytes k d → c ≡ d
 one_settings bytes k c d station device analog digital p q =
     let lf : c.lf.n ≡ d.lf.n = both_lines bytes k IsLineFrequency c.lf.n d.lf.n (λ fs a b. decimal_once (at fs 1) c.lf.n d.lf.n a.value.value b.value.value) p.frequency q.frequency in
-    let endsamp : c.endsamp ≡ d.endsamp = both_lines bytes (k + 2) IsSampling c.endsamp d.endsamp (λ fs a b. whole_from_once 1 _ (at fs 2) c.endsamp d.endsamp a.samples b.samples) p.sampling q.sampling in
+    let sampling : IsSampling q.sampling.0 c.rate c.endsamp = subst (λ (fs : List (List ℕ)). IsSampling fs c.rate c.endsamp) (one_line bytes (k + 2) p.sampling.0 q.sampling.0 p.sampling.1 q.sampling.1) p.sampling.2 in
+    let rate : c.rate ≡ d.rate = rate_once (at q.sampling.0 1) c.rate d.rate sampling.rate_is q.sampling.2.rate_is in
+    let endsamp : c.endsamp ≡ d.endsamp = whole_from_once 1 _ (at q.sampling.0 2) c.endsamp d.endsamp sampling.samples q.sampling.2.samples in
     let first : c.first ≡ d.first = both_lines bytes (k + 3) IsStamp c.first d.first (λ fs a b. one_stamp fs c.first d.first a b) p.first q.first in
     let trigger : c.trigger ≡ d.trigger = both_lines bytes (k + 4) IsStamp c.trigger d.trigger (λ fs a b. one_stamp fs c.trigger d.trigger a b) p.trigger q.trigger in
     let form : c.form ≡ d.form = both_lines bytes (k + 5) IsFileType c.form d.form (λ fs a b. form_once (at fs 1) c.form d.form a.word b.word) p.file_type q.file_type in
     let last : IsMultiplier q.last.0 c.timemult.n = subst (λ (fs : List (List ℕ)). IsMultiplier fs c.timemult.n) (one_last_line bytes (k + 6) p.last.0 q.last.0 p.last.1 q.last.1) p.last.2 in
     let timemult : c.timemult.n ≡ d.timemult.n = decimal_once (at q.last.0 1) c.timemult.n d.timemult.n last.value q.last.2.value in
-    same_config c.station c.device c.analog c.digital c.lf c.endsamp c.first c.trigger c.form c.timemult d.station d.device d.analog d.digital d.lf d.endsamp d.first d.trigger d.form d.timemult station
-    device analog digital (value_is c.lf d.lf lf) endsamp first trigger form (value_is c.timemult d.timemult timemult)
+    same_config c.station c.device c.analog c.digital c.lf c.rate c.endsamp c.first c.trigger c.form c.timemult d.station d.device d.analog d.digital d.lf d.rate d.endsamp d.first d.trigger d.form d.timemult station
+    device analog digital (value_is c.lf d.lf lf) rate endsamp first trigger form (value_is c.timemult d.timemult timemult)
 
 pub one_config : (bytes : List ℕ) (c d : Config) → IsConfig bytes c → IsConfig bytes d → c ≡ d
 one_config bytes c d p q =

@@ -1,11 +1,13 @@
 -- What the judges of single fields answer.
 use Rattle.std.proofs.Common.{◌≡◌, ◌≢◌, ℕ, List, subst, arith, ℤ, pos, ◌≤ℤ◌}
 use Rattle.std.proofs.lemmas.Int.{ints}
+use Rattle.flk_num.specs.declared.rate.Rate.{Rate}
+use Rattle.flk_num.specs.declared.rate.Rate.TheVariants.{R2400, R4800}
 use Rattle.flk_text.specs.Decimal.{IsDecimal, IsForm}
 use Rattle.flk_text.specs.WholeNumber.{IsWholeValue, IsWholeForm}
 use Rattle.flk_text.proofs.NumeralLemmas.{decimal_once}
 use Rattle.flk_text.proofs.DecimalLaws.{whole_once}
-use Rattle.flk_cfg.specs.Values.{IsWholeFrom, IsFrequency}
+use Rattle.flk_cfg.specs.Values.{IsWholeFrom, IsFrequency, rate_units, IsRate}
 
 pub whole_form : (text : List ℕ) (z : ℤ) → IsWholeValue text z → IsWholeForm text
 whole_form text z v = (v.minus, v.size, v.spelled)
@@ -37,5 +39,7 @@ not_above text z v low y is =
     let e : y ≡ z = decimal_once text y z is.value v in
     omega (arith, ints, is.above, low, e)
 
-pub other_rate : (text : List ℕ) (z y : ℤ) → IsDecimal text z → z ≢ y → IsDecimal text y → ⊥
-other_rate text z y v out is = out (decimal_once text z y v is)
+-- a decimal that is equal to neither rate
+pub no_rate : (text : List ℕ) (z : ℤ) → IsDecimal text z → z ≢ rate_units R2400 → z ≢ rate_units R4800 → (rate : Rate) → IsRate text rate → ⊥
+no_rate text z v low high R2400 is = low (decimal_once text z (rate_units R2400) v is)
+no_rate text z v low high R4800 is = high (decimal_once text z (rate_units R4800) v is)

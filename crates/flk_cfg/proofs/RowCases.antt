@@ -1,6 +1,7 @@
 -- A line is good or has a first fault, and a good line has the values of its row.
 use Rattle.std.proofs.Common.{◌≡◌, ◌⊎◌, ℕ, ◌+◌, List, [], ◌∷◌, length, refl, subst, arith, inl, inr, ℤ}
 use Rattle.std.proofs.lemmas.Bool.{cases_eq}
+use Rattle.flk_num.specs.declared.rate.Rate.{Rate}
 use Rattle.flk_cfg.specs.Values.{IsText, HasText, IsWholeFrom}
 use Rattle.flk_cfg.specs.Table.{Set, at, FaultFrom, LineFault, InFrom, IsIn, IsGoodLine, title_row, counts_row, analog_row, digital_row, frequency_row, rates_row, sampling_row, stamp_row, form_row, last_row}
 use Rattle.flk_cfg.specs.Rows.{IsTitle, TitleFault, AreCounts, IsCounts, CountsFault, IsAnalog, IsDigital, IsLineFrequency, IsOneRate, IsSampling, IsStamp, IsFileType, IsMultiplier}
@@ -153,9 +154,9 @@ pub rates_of : (fs : List (List ℕ)) → IsGoodLine rates_row fs → IsOneRate 
 unfolding IsIn
 rates_of fs good = record { count = good.0; one = exactly 1 (at fs 1) good.1.0 }
 
-pub sampling_of : (fs : List (List ℕ)) → IsGoodLine sampling_row fs → (n : ℕ) × IsSampling fs n
+pub sampling_of : (fs : List (List ℕ)) → IsGoodLine sampling_row fs → (rate : Rate) × (n : ℕ) × IsSampling fs rate n
 unfolding IsIn
-sampling_of fs good = (good.1.1.0.0, record { count = good.0; rate = good.1.0; samples = good.1.1.0.1 })
+sampling_of fs good = (good.1.0.0, good.1.1.0.0, record { count = good.0; rate_is = good.1.0.1; samples = good.1.1.0.1 })
 
 pub stamp_of : (fs : List (List ℕ)) → IsGoodLine stamp_row fs → (s : Stamp) × IsStamp fs s
 unfolding IsIn

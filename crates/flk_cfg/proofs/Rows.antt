@@ -1,6 +1,7 @@
 -- Lines with their values are good lines of their rows, and the rows of a file by their place.
 use Rattle.std.proofs.Common.{◌≡◌, ℕ, ◌+◌, ◌-◌, ◌<◌, List, [], get_or, true, false, ltb, refl, arith, ℤ}
 use Rattle.std.proofs.lemmas.Bool.{lt-ltb, le-ltb}
+use Rattle.flk_num.specs.declared.rate.Rate.{Rate}
 use Rattle.flk_cfg.specs.Table.{IsIn, IsGoodLine, row, title_row, counts_row, analog_row, digital_row, frequency_row, rates_row, sampling_row, stamp_row, form_row, last_row, setting_rows}
 use Rattle.flk_cfg.specs.Rows.{IsTitle, AreCounts, IsAnalog, IsDigital, IsLineFrequency, IsOneRate, IsSampling, IsStamp, IsFileType, IsMultiplier}
 use Rattle.flk_cfg.specs.declared.config.Analog.{Analog}
@@ -56,9 +57,9 @@ pub good_rates : (fs : List (List ℕ)) → IsOneRate fs → IsGoodLine rates_ro
 unfolding IsIn
 good_rates fs h = (h.count, ((1, h.one), tt))
 
-pub good_sampling : (fs : List (List ℕ)) (n : ℕ) → IsSampling fs n → IsGoodLine sampling_row fs
+pub good_sampling : (fs : List (List ℕ)) (rate : Rate) (n : ℕ) → IsSampling fs rate n → IsGoodLine sampling_row fs
 unfolding IsIn
-good_sampling fs n h = (h.count, (h.rate, ((n, h.samples), tt)))
+good_sampling fs rate n h = (h.count, ((rate, h.rate_is), ((n, h.samples), tt)))
 
 pub good_stamp : (fs : List (List ℕ)) (s : Stamp) → IsStamp fs s → IsGoodLine stamp_row fs
 unfolding IsIn

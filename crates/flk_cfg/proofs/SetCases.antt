@@ -7,17 +7,18 @@ use Rattle.std.proofs.lemmas.Bool.{cases_lt, cases_eq, cases_Bool, true≢false}
 use Rattle.std.proofs.lemmas.Slice.Eq.{bytes_eq-Decides}
 use Rattle.std.proofs.Math.Seq.{get_or-append_seam}
 use Rattle.jiff.specs.Words.{IsDate, days_in_month}
+use Rattle.flk_num.specs.declared.rate.Rate.TheVariants.{R2400, R4800}
 use Rattle.flk_text.specs.Decimal.{IsDecimal}
 use Rattle.flk_text.specs.WholeNumber.{IsWholeValue}
 use Rattle.flk_text.proofs.TextCases.{decimal_cases, whole_cases}
-use Rattle.flk_cfg.specs.Values.{is_text_byte, IsWholeFrom, EndsIn, IsSide, IsFormWord, IsBit}
+use Rattle.flk_cfg.specs.Values.{is_text_byte, IsWholeFrom, EndsIn, rate_units, IsSide, IsFormWord, IsBit}
 use Rattle.flk_cfg.specs.DateParts.{DateNumbers, TimeNumbers, date_of, time_of}
-use Rattle.flk_cfg.specs.Table.{Set, Text, Revision, Total, Counted, Position, Decimal, DecimalOrZero, Side, Bit, Frequency, OneRate, SamplingRate, SampleCount, Date, Time, FormWord, IsIn, Refuses, NoWhole, rate_units}
+use Rattle.flk_cfg.specs.Table.{Set, Text, Revision, Total, Counted, Position, Decimal, DecimalOrZero, Side, Bit, Frequency, OneRate, SamplingRate, SampleCount, Date, Time, FormWord, IsIn, Refuses, NoWhole}
 use Rattle.flk_cfg.specs.declared.kind.Kind.{Kind}
 use Rattle.flk_cfg.specs.declared.kind.Kind.TheVariants as kinds
 use Rattle.flk_cfg.specs.declared.config.Form.{Form}
 use Rattle.flk_cfg.specs.declared.config.Form.TheVariants.{Ascii, Binary}
-use Rattle.flk_cfg.proofs.FieldJudges.{whole_form, whole_outside, whole_far, decimal_form, not_above, other_rate}
+use Rattle.flk_cfg.proofs.FieldJudges.{whole_form, whole_outside, whole_far, decimal_form, not_above, no_rate}
 use Rattle.flk_cfg.proofs.DateJudges.{no_date, no_time, date_in, date_out, time_in, time_out}
 
 abbrev pub SetCases : Set → List ℕ → Type 0
@@ -239,8 +240,11 @@ rate_by : (f : List ℕ) (z : ℤ) → IsDecimal f z → SetCases SamplingRate f
 unfolding IsIn Refuses
 rate_by f z v =
     elim (is_whole z (2400 * 10 ^ 24)) [
-      | inl same ↦ inl (subst (IsDecimal f) same v)
-      | inr other ↦ inr (kinds.Rates, inr (refl, decimal_form f z v, other_rate f z rate_units v other))
+      | inl same ↦ inl (R2400, subst (IsDecimal f) same v)
+      | inr low ↦ elim (is_whole z (4800 * 10 ^ 24)) [
+        | inl same ↦ inl (R4800, subst (IsDecimal f) same v)
+        | inr high ↦ inr (kinds.Rates, inr (refl, decimal_form f z v, no_rate f z v low high))
+      ]
     ]
 
 rate_set : (f : List ℕ) → SetCases SamplingRate f
@@ -248,7 +252,7 @@ unfolding IsIn Refuses
 rate_set f =
     elim (decimal_cases f) [
       | inl is ↦ rate_by f is.0 is.1
-      | inr (inl far) ↦ inr (kinds.Rates, inr (refl, far.0, far.1 rate_units))
+      | inr (inl far) ↦ inr (kinds.Rates, inr (refl, far.0, λ rate. far.1 (rate_units rate)))
       | inr (inr no_form) ↦ inr (kinds.Number, inl (refl, no_form))
     ]
 

@@ -49,7 +49,7 @@ good_settings bytes k s zero are lt =
     let h = are.frequency in
     subst (λ (n : ℕ). HasLine bytes n (IsGoodLine (setting_at 0))) same (h.0, h.1, good_frequency h.0 s.lf.n h.2)
 good_settings bytes k s (suc zero) are lt = (are.rates.0, are.rates.1, good_rates are.rates.0 are.rates.2)
-good_settings bytes k s (suc (suc zero)) are lt = (are.sampling.0, are.sampling.1, good_sampling are.sampling.0 s.endsamp are.sampling.2)
+good_settings bytes k s (suc (suc zero)) are lt = (are.sampling.0, are.sampling.1, good_sampling are.sampling.0 s.rate s.endsamp are.sampling.2)
 good_settings bytes k s (suc (suc (suc zero))) are lt = (are.first.0, are.first.1, good_stamp are.first.0 s.first are.first.2)
 good_settings bytes k s (suc (suc (suc (suc zero)))) are lt = (are.trigger.0, are.trigger.1, good_stamp are.trigger.0 s.trigger are.trigger.2)
 good_settings bytes k s (suc (suc (suc (suc (suc zero))))) are lt = (are.file_type.0, are.file_type.1, good_form are.file_type.0 s.form are.file_type.2)

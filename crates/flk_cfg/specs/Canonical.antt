@@ -11,6 +11,8 @@ use Rattle.flk_cfg.specs.declared.config.Form.{Form}
 use Rattle.flk_cfg.specs.declared.config.Form.TheVariants.{Ascii, Binary}
 use Rattle.flk_cfg.specs.declared.config.Stamp.{Stamp}
 use Rattle.flk_cfg.specs.declared.kind.CfgFault.{CfgFault}
+use Rattle.flk_num.specs.declared.rate.Rate.{Rate}
+use Rattle.flk_num.specs.declared.rate.Rate.TheVariants.{R2400, R4800}
 use Rattle.flk_num.specs.declared.stop.Stop.{Stop}
 use Rattle.flk_num.specs.declared.stop.Stop.TheVariants as stop
 
@@ -35,6 +37,11 @@ time_text s = padded 2 s.hour ++ 58 ∷ (padded 2 s.minute ++ 58 ∷ (padded 2 s
 abbrev pub form_text : Form → List ℕ
 form_text Ascii = codes "ASCII"
 form_text Binary = codes "BINARY"
+
+-- `2400` or `4800`
+abbrev pub rate_text : Rate → List ℕ
+rate_text R2400 = codes "2400"
+rate_text R4800 = codes "4800"
 
 -- ---- the fields of each line
 
@@ -76,7 +83,7 @@ abbrev pub setting_lines : Config → List (List (List ℕ))
 setting_lines c =
     (plain c.lf.n ∷ [])
     ∷ (codes "1" ∷ [])
-    ∷ (codes "2400" ∷ decimal c.endsamp ∷ [])
+    ∷ (rate_text c.rate ∷ decimal c.endsamp ∷ [])
     ∷ stamp_fields c.first
     ∷ stamp_fields c.trigger
     ∷ (form_text c.form ∷ [])

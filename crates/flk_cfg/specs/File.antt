@@ -26,7 +26,7 @@ AreDigitals bytes k channels = (i : ℕ) → (none : Digital) → i < length cha
 pub record AreSettings (bytes : List ℕ) (k : ℕ) (c : Config) : Type 0 where
   pub frequency : HasLine bytes k (λ parts. IsLineFrequency parts c.lf.n)
   pub rates : HasLine bytes (k + 1) IsOneRate
-  pub sampling : HasLine bytes (k + 2) (λ parts. IsSampling parts c.endsamp)
+  pub sampling : HasLine bytes (k + 2) (λ parts. IsSampling parts c.rate c.endsamp)
   pub first : HasLine bytes (k + 3) (λ parts. IsStamp parts c.first)
   pub trigger : HasLine bytes (k + 4) (λ parts. IsStamp parts c.trigger)
   pub file_type : HasLine bytes (k + 5) (λ parts. IsFileType parts c.form)

@@ -1,10 +1,11 @@
 -- The rows of the table with the values of their columns: which fields of a line write which values. Faults of the first two
 -- lines, which have rules of their own, are here too.
 use Rattle.std.specs.Prelude.{◌≡◌, ◌≢◌, ℕ, ◌+◌, ◌-◌, ◌^◌, ◌⊎◌, List, length, codes, ℤ}
+use Rattle.flk_num.specs.declared.rate.Rate.{Rate}
 use Rattle.flk_text.specs.Decimal.{IsDecimal}
 use Rattle.flk_cfg.specs.Dates.{IsDateOf, IsTimeOf}
-use Rattle.flk_cfg.specs.Values.{HasText, IsWholeFrom, IsCounted, IsDecimalOrZero, IsFrequency, IsSide, IsBit, IsFormWord}
-use Rattle.flk_cfg.specs.Table.{at, title_row, counts_row, rate_units, LineFault}
+use Rattle.flk_cfg.specs.Values.{HasText, IsWholeFrom, IsCounted, IsDecimalOrZero, IsFrequency, IsRate, IsSide, IsBit, IsFormWord}
+use Rattle.flk_cfg.specs.Table.{at, title_row, counts_row, LineFault}
 use Rattle.flk_cfg.specs.declared.config.Analog.{Analog}
 use Rattle.flk_cfg.specs.declared.config.Digital.{Digital}
 use Rattle.flk_cfg.specs.declared.config.Form.{Form}
@@ -78,9 +79,9 @@ pub record IsOneRate (fields : List (List ℕ)) : Type 0 where
   pub one : IsWholeFrom 1 1 (at fields 1) 1
 
 -- samp, endsamp
-pub record IsSampling (fields : List (List ℕ)) (endsamp : ℕ) : Type 0 where
+pub record IsSampling (fields : List (List ℕ)) (rate : Rate) (endsamp : ℕ) : Type 0 where
   pub count : length fields ≡ 2
-  pub rate : IsDecimal (at fields 1) rate_units
+  pub rate_is : IsRate (at fields 1) rate
   pub samples : IsWholeFrom 1 (2 ^ 32 - 1) (at fields 2) endsamp
 
 -- date, time

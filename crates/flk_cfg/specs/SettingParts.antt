@@ -12,7 +12,7 @@ setting_at i = get_or setting_rows i []
 pub record AreSettingLines (bytes : List ℕ) (k : ℕ) (s : Settings) : Type 0 where
   pub frequency : HasLine bytes k (λ parts. IsLineFrequency parts s.lf.n)
   pub rates : HasLine bytes (k + 1) IsOneRate
-  pub sampling : HasLine bytes (k + 2) (λ parts. IsSampling parts s.endsamp)
+  pub sampling : HasLine bytes (k + 2) (λ parts. IsSampling parts s.rate s.endsamp)
   pub first : HasLine bytes (k + 3) (λ parts. IsStamp parts s.first)
   pub trigger : HasLine bytes (k + 4) (λ parts. IsStamp parts s.trigger)
   pub file_type : HasLine bytes (k + 5) (λ parts. IsFileType parts s.form)

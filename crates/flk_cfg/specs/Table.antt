@@ -1,11 +1,12 @@
 -- The table of a configuration's lines (IEEE C37.111-1999, clause 5.3): the set of each field, the kind of a field that isn't in
 -- its set, and the rows. The columns of a row are the fields of a line, from the left.
-use Rattle.std.specs.Prelude.{◌≡◌, ◌≢◌, ℕ, ◌+◌, ◌-◌, ◌*◌, ◌^◌, ◌<◌, ◌≤◌, ◌⊎◌, Bool, false, cond, ltb, List, [], ◌∷◌, length, get_or, codes, ℤ, pos}
+use Rattle.std.specs.Prelude.{◌≡◌, ◌≢◌, ℕ, ◌+◌, ◌-◌, ◌^◌, ◌<◌, ◌≤◌, ◌⊎◌, Bool, false, cond, ltb, List, [], ◌∷◌, length, get_or, codes, ℤ}
 use Rattle.std.specs.List.{list_all}
+use Rattle.flk_num.specs.declared.rate.Rate.{Rate}
 use Rattle.flk_text.specs.Decimal.{IsDecimal, IsForm}
 use Rattle.flk_text.specs.WholeNumber.{IsWholeForm}
 use Rattle.flk_cfg.specs.Dates.{IsDateForm, IsDateOf, IsTimeForm, IsTimeOf}
-use Rattle.flk_cfg.specs.Values.{is_text_byte, IsText, IsWholeFrom, EndsIn, IsCounted, IsDecimalOrZero, IsFrequency, IsSide, IsBit, IsFormWord}
+use Rattle.flk_cfg.specs.Values.{is_text_byte, IsText, IsWholeFrom, EndsIn, IsCounted, IsDecimalOrZero, IsFrequency, IsRate, IsSide, IsBit, IsFormWord}
 use Rattle.flk_cfg.specs.declared.config.Form.{Form}
 use Rattle.flk_cfg.specs.declared.kind.Kind.{Kind}
 use Rattle.flk_cfg.specs.declared.kind.Kind.TheVariants as kinds
@@ -29,10 +30,6 @@ pub data Set : Type 0 where
   Time : Set
   FormWord : Set
 
--- 2400 in units of 10^-24
-abbrev pub rate_units : ℤ
-rate_units = pos (2400 * 10 ^ 24)
-
 -- the field is in the set
 unfoldable pub IsIn : Set → List ℕ → Type 0
 IsIn Text f = IsText f
@@ -46,7 +43,7 @@ IsIn Side f = (b : ℕ) × IsSide f b
 IsIn Bit f = (b : Bool) × IsBit f b
 IsIn Frequency f = (z : ℤ) × IsFrequency f z
 IsIn OneRate f = (n : ℕ) × IsWholeFrom 1 1 f n
-IsIn SamplingRate f = IsDecimal f rate_units
+IsIn SamplingRate f = (rate : Rate) × IsRate f rate
 IsIn SampleCount f = (n : ℕ) × IsWholeFrom 1 (2 ^ 32 - 1) f n
 IsIn Date f = (year : ℤ) × (month : ℕ) × (day : ℕ) × IsDateOf f year month day
 IsIn Time f = (hour : ℕ) × (minute : ℕ) × (second : ℕ) × (nanos : ℕ) × IsTimeOf f hour minute second nanos
@@ -72,7 +69,7 @@ Refuses Side f kind = (kind ≡ kinds.Word) × ((b : ℕ) → IsSide f b → ⊥
 Refuses Bit f kind = NoWhole kinds.Range 0 1 f kind
 Refuses Frequency f kind = ((kind ≡ kinds.Number) × (IsForm f → ⊥)) ⊎ ((kind ≡ kinds.Range) × IsForm f × ((z : ℤ) → IsFrequency f z → ⊥))
 Refuses OneRate f kind = NoWhole kinds.Rates 1 1 f kind
-Refuses SamplingRate f kind = ((kind ≡ kinds.Number) × (IsForm f → ⊥)) ⊎ ((kind ≡ kinds.Rates) × IsForm f × (IsDecimal f rate_units → ⊥))
+Refuses SamplingRate f kind = ((kind ≡ kinds.Number) × (IsForm f → ⊥)) ⊎ ((kind ≡ kinds.Rates) × IsForm f × ((rate : Rate) → IsRate f rate → ⊥))
 Refuses SampleCount f kind = NoWhole kinds.Range 1 (2 ^ 32 - 1) f kind
 Refuses Date f kind =
     ((kind ≡ kinds.Number) × (IsDateForm f → ⊥)) ⊎ ((kind ≡ kinds.Range) × IsDateForm f × ((year : ℤ) → (month day : ℕ) → IsDateOf f year month day → ⊥))

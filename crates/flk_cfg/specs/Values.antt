@@ -1,7 +1,9 @@
 -- The values of single fields of a configuration: which field writes which value.
-use Rattle.std.specs.Prelude.{◌≡◌, ℕ, ◌+◌, ◌≤◌, ◌<ℤ◌, ◌⊎◌, Bool, true, cond, not, ◌||◌, eqb, List, [], ◌∷◌, ◌++◌, length, codes, ℤ, pos}
+use Rattle.std.specs.Prelude.{◌≡◌, ℕ, ◌+◌, ◌≤◌, ◌<ℤ◌, ◌⊎◌, ◌*◌, ◌^◌, Bool, true, cond, not, ◌||◌, eqb, List, [], ◌∷◌, ◌++◌, length, codes, ℤ, pos}
 use Rattle.std.specs.List.{list_all}
 use Rattle.std.specs.Str.{str_eq_ignore_ascii_case}
+use Rattle.flk_num.specs.Rate.{samples_per_second}
+use Rattle.flk_num.specs.declared.rate.Rate.{Rate}
 use Rattle.flk_text.specs.Decimal.{IsDecimal}
 use Rattle.flk_text.specs.WholeNumber.{IsWholeValue}
 use Rattle.flk_cfg.specs.declared.config.Form.{Form}
@@ -47,6 +49,14 @@ IsDecimalOrZero f z = ((f ≡ []) × (z ≡ pos 0)) ⊎ IsDecimal f z
 pub record IsFrequency (f : List ℕ) (z : ℤ) : Type 0 where
   pub value : IsDecimal f z
   pub above : pos 0 <ℤ z
+
+-- a sampling rate in units of 10^-24 of a hertz
+abbrev pub rate_units : Rate → ℤ
+rate_units rate = pos (samples_per_second rate * 10 ^ 24)
+
+-- a decimal that is equal to the rate
+abbrev pub IsRate : List ℕ → Rate → Type 0
+IsRate f rate = IsDecimal f (rate_units rate)
 
 -- `P`, `p`, `S` or `s`
 pub record IsSide (f : List ℕ) (b : ℕ) : Type 0 where

@@ -1,6 +1,6 @@
 //! What a configuration says.
 
-use flk_num::List;
+use flk_num::{List, Rate};
 use flk_text::DecimalValue;
 
 /// The most bytes of a text.
@@ -79,7 +79,7 @@ pub struct Digital {
     pub normal: bool,
 }
 
-/// What a configuration of one sampling rate of 2400 samples a second says.
+/// What a configuration of one sampling rate, 2400 or 4800 samples a second, says.
 #[derive(Drop)]
 pub struct Config {
     /// The station's name, at most 64 bytes.
@@ -92,6 +92,8 @@ pub struct Config {
     pub digital: List<Digital>,
     /// The line frequency in hertz, above 0.
     pub lf: DecimalValue,
+    /// The sampling rate, `samp`.
+    pub rate: Rate,
     /// The number of records, from 1 to 4294967295.
     pub endsamp: u32,
     /// When the first record was sampled.

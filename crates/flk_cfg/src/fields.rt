@@ -3,16 +3,19 @@
 ghost use Rattle.std.specs.Prelude.{◌≡◌, ◌<◌, ◌^◌, ◌-◌, ◌*◌, ℕ, List, codes, MatchResult, MatchOption, Err, Ok};
 ghost use Rattle.std.specs.List.{list_all};
 ghost use Rattle.flk_text.specs.Decimal.{IsDecimal};
-ghost use Rattle.flk_cfg.specs.Values.{is_text_byte as text_byte, IsText, IsWholeFrom, EndsIn, IsCounted, IsDecimalOrZero, IsFrequency, IsSide, IsBit, IsFormWord};
-ghost use Rattle.flk_cfg.specs.Table.{Text, Revision, Total, Counted, Position, Decimal, DecimalOrZero, Side, Bit, Frequency, OneRate, SamplingRate, SampleCount, FormWord, NoWhole, Refuses, rate_units};
+ghost use Rattle.flk_cfg.specs.Values.{is_text_byte as text_byte, IsText, IsWholeFrom, EndsIn, IsCounted, IsDecimalOrZero, IsFrequency, IsRate, IsSide, IsBit, IsFormWord};
+ghost use Rattle.flk_cfg.specs.Table.{Text, Revision, Total, Counted, Position, Decimal, DecimalOrZero, Side, Bit, Frequency, OneRate, SamplingRate, SampleCount, FormWord, NoWhole, Refuses};
 ghost use Rattle.flk_cfg.specs.declared.kind.Kind.TheVariants as kinds;
 
 use crate::config::{Form, LONGEST_TEXT};
 use crate::kind::Kind;
+use flk_num::Rate;
 use flk_text::{DecimalValue, NumFault, decimal, whole};
 
-/// 2400 in units of 10^-24.
-const RATE_UNITS: i128 = 2_400_000_000_000_000_000_000_000_000;
+/// 2400 and 4800 in units of 10^-24.
+const LOW_RATE: i128 = 2_400_000_000_000_000_000_000_000_000;
+
+const HIGH_RATE: i128 = 4_800_000_000_000_000_000_000_000_000;
 
 /// Whether neither a CR nor a byte 1A is among the bytes.
 fn are_text_bytes(bytes: &[u8]) -> bool
@@ -186,13 +189,14 @@ pub fn frequency(field: &[u8]) -> Result<DecimalValue, Kind>
     }
 }
 
-/// Whether the field is the sampling rate, 2400.
+/// The sampling rate, 2400 or 4800.
 #[tactic(auto, unfolding(crate::specs::Table::Refuses))]
-pub fn sampling_rate(field: &[u8]) -> Result<(), Kind>
-    ensures { MatchResult result (λ _. IsDecimal field.now rate_units) (λ kind. Refuses SamplingRate field.now kind) }
+pub fn sampling_rate(field: &[u8]) -> Result<Rate, Kind>
+    ensures { MatchResult result (λ rate. IsRate field.now rate) (λ kind. Refuses SamplingRate field.now kind) }
 {
     match decimal(field) {
-        Ok(value) if value.n == RATE_UNITS => Ok(()),
+        Ok(value) if value.n == LOW_RATE => Ok(Rate::R2400),
+        Ok(value) if value.n == HIGH_RATE => Ok(Rate::R4800),
         Ok(_) => Err(Kind::Rates),
         Err(NumFault::Syntax) => Err(Kind::Number),
         Err(NumFault::Range) => Err(Kind::Rates),

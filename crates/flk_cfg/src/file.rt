@@ -33,6 +33,7 @@ fn read_config(alloc: Global, bytes: &[u8]) -> Result<Config, Stop<Fault>>
         analog,
         digital,
         lf: settings.lf,
+        rate: settings.rate,
         endsamp: settings.endsamp,
         first: settings.first,
         trigger: settings.trigger,
@@ -41,8 +42,8 @@ fn read_config(alloc: Global, bytes: &[u8]) -> Result<Config, Stop<Fault>>
     })
 }
 
-/// The configuration that the bytes of a file write, as IEEE C37.111-1999, clause 5, lays it down, with one sampling rate of 2400
-/// samples a second.
+/// The configuration that the bytes of a file write, as IEEE C37.111-1999, clause 5, lays it down, with one sampling rate, of
+/// 2400 or 4800 samples a second.
 ///
 /// A line ends with LF or at the end of the file, and one CR before that end is dropped; its fields stand between commas, and
 /// spaces at both their ends are dropped. The fault is the first faulty line's, and in a line its count of fields comes first and

@@ -4,8 +4,8 @@
 ghost use Rattle.std.specs.Prelude.{◌≡◌, ◌<◌, ◌≤◌, ◌^◌, ◌-◌, codes, length, MatchResult};
 ghost use Rattle.flk_text.specs.Decimal.{IsDecimal};
 ghost use Rattle.flk_cfg.specs.Dates.{IsDateOf, IsTimeOf};
-ghost use Rattle.flk_cfg.specs.Values.{IsText, IsWholeFrom, IsCounted, IsDecimalOrZero, IsFrequency, IsSide, IsBit, IsFormWord};
-ghost use Rattle.flk_cfg.specs.Table.{Text, Revision, Total, Counted, Position, Decimal, DecimalOrZero, Side, Bit, Frequency, OneRate, SamplingRate, SampleCount, Date as DateSet, Time as TimeSet, FormWord, IsIn, rate_units, at as part_at};
+ghost use Rattle.flk_cfg.specs.Values.{IsText, IsWholeFrom, IsCounted, IsDecimalOrZero, IsFrequency, IsRate, IsSide, IsBit, IsFormWord};
+ghost use Rattle.flk_cfg.specs.Table.{Text, Revision, Total, Counted, Position, Decimal, DecimalOrZero, Side, Bit, Frequency, OneRate, SamplingRate, SampleCount, Date as DateSet, Time as TimeSet, FormWord, IsIn, at as part_at};
 ghost use Rattle.flk_cfg.specs.Reading.{parts_of, FieldFault};
 
 use crate::columns::Columns;
@@ -16,6 +16,7 @@ use crate::fields::{
     sample_count, sampling_rate, side, text, total,
 };
 use crate::kind::Fault;
+use flk_num::Rate;
 use flk_text::DecimalValue;
 
 impl<'a> Columns<'a> {
@@ -163,15 +164,16 @@ impl<'a> Columns<'a> {
         }
     }
 
-    /// Whether the field at the place is the sampling rate.
+    /// The sampling rate.
     #[tactic(auto, unfolding(crate::specs::Table::IsIn))]
-    pub fn sampling_rate(&self, place: usize) -> Result<(), Fault>
+    pub fn sampling_rate(&self, place: usize) -> Result<Rate, Fault>
         requires some { (0 < place) × (place ≤ 13) }
         requires there { place ≤ length (parts_of self.now) }
-        ensures { MatchResult result (λ _. IsIn SamplingRate (part_at (parts_of self.now) place) × IsDecimal (part_at (parts_of self.now) place) rate_units) (λ f. FieldFault SamplingRate self.now place f) }
+        ensures { MatchResult result (λ rate. IsIn SamplingRate (part_at (parts_of self.now) place) × IsRate (part_at (parts_of self.now) place) rate)
+            (λ f. FieldFault SamplingRate self.now place f) }
     {
         match sampling_rate(self.field(place)) {
-            Ok(_) => Ok(()),
+            Ok(value) => Ok(value),
             Err(kind) => Err(self.fault(place, kind)),
         }
     }

@@ -22,7 +22,7 @@ pub enum Kind {
     Word,
     /// A revision year other than 1999; it is missing in a first line of two fields.
     Revision,
-    /// A number of sampling rates other than 1, or a sampling rate other than 2400.
+    /// A number of sampling rates other than 1, or a sampling rate other than 2400 and 4800.
     Rates,
     /// A text above 64 bytes, or bytes after the last line that are no tail.
     Length,

@@ -2,10 +2,11 @@
 
 ghost use Rattle.std.specs.Prelude.{◌≡◌, ◌+◌, ◌%◌, ◌/◌, ◌<◌, ◌≤◌, ◌^◌, ◌++◌, ◌∷◌, [], length, codes, OnOk, unsigned_abs, decimal};
 ghost use Rattle.flk_text.specs.PlainText.{plain};
-ghost use Rattle.flk_cfg.specs.Canonical.{padded, date_text, second_digits, time_text, form_text, title_fields, counts_fields, analog_fields, digital_fields, analog_lines, digital_lines, stamp_fields, setting_lines, line_text, lines_text};
+ghost use Rattle.flk_cfg.specs.Canonical.{padded, date_text, second_digits, time_text, form_text, rate_text, title_fields, counts_fields, analog_fields, digital_fields, analog_lines, digital_lines, stamp_fields, setting_lines, line_text, lines_text};
 ghost use Rattle.flk_cfg.specs.Valid.{IsValidStamp};
 
 use crate::config::{Analog, Config, Digital, Form, Stamp};
+use flk_num::Rate;
 use flk_text::{DecimalValue, push_decimal};
 use itoa::Buffer;
 use std::alloc::AllocError;
@@ -202,12 +203,30 @@ pub fn push_digitals(out: &mut Vec<u8>, channels: &[Digital]) -> Result<(), Allo
     Ok(())
 }
 
-/// Appends the lines of the line frequency, of the one sampling rate, and of the number of records.
-fn push_sampling(out: &mut Vec<u8>, lf: DecimalValue, endsamp: u32) -> Result<(), AllocError>
-    ensures { OnOk result (out.new.items ≡ out.old.items ++ lines_text ((plain lf.n ∷ []) ∷ (codes "1" ∷ []) ∷ (codes "2400" ∷ decimal endsamp ∷ []) ∷ [])) }
+/// Appends a sampling rate.
+fn push_rate(out: &mut Vec<u8>, rate: Rate) -> Result<(), AllocError>
+    ensures { OnOk result (out.new.items ≡ out.old.items ++ rate_text rate) }
+{
+    match rate {
+        Rate::R2400 => out.extend_from_slice(b"2400"),
+        Rate::R4800 => out.extend_from_slice(b"4800"),
+    }
+}
+
+/// Appends the lines of the line frequency, of the number of sampling rates, and of the one rate with the number of records.
+fn push_sampling(
+    out: &mut Vec<u8>,
+    lf: DecimalValue,
+    rate: Rate,
+    endsamp: u32,
+) -> Result<(), AllocError>
+    ensures { OnOk result (out.new.items ≡ out.old.items
+        ++ lines_text ((plain lf.n ∷ []) ∷ (codes "1" ∷ []) ∷ (rate_text rate ∷ decimal endsamp ∷ []) ∷ [])) }
 {
     push_decimal(out, lf)?;
-    out.extend_from_slice(b"\r\n1\r\n2400,")?;
+    out.extend_from_slice(b"\r\n1\r\n")?;
+    push_rate(out, rate)?;
+    out.extend_from_slice(b",")?;
     push_number(out, endsamp)?;
     out.extend_from_slice(b"\r\n")
 }
@@ -248,7 +267,7 @@ pub fn push_settings(out: &mut Vec<u8>, c: &Config) -> Result<(), AllocError>
     requires trigger { IsValidStamp c.now.trigger }
     ensures { OnOk result (out.new.items ≡ out.old.items ++ lines_text (setting_lines c.now)) }
 {
-    push_sampling(out, c.lf, c.endsamp)?;
+    push_sampling(out, c.lf, c.rate, c.endsamp)?;
     push_stamps(out, &c.first, &c.trigger)?;
     push_end(out, c.form, c.timemult)
 }

@@ -11,16 +11,25 @@ use crate::columns::Columns;
 use crate::config::{Form, Stamp};
 use crate::kind::Fault;
 use crate::reader::Reader;
+use flk_num::Rate;
 use flk_text::DecimalValue;
 
 /// What these lines say.
 #[derive(Clone, Copy)]
 pub struct Settings {
     pub lf: DecimalValue,
+    pub rate: Rate,
     pub endsamp: u32,
     pub first: Stamp,
     pub trigger: Stamp,
     pub form: Form,
+}
+
+/// The sampling rate, and the number of records.
+#[derive(Clone, Copy)]
+pub struct Sampling {
+    pub rate: Rate,
+    pub endsamp: u32,
 }
 
 /// The line frequency.
@@ -39,13 +48,14 @@ fn rates(columns: &Columns<'_>) -> Result<(), Fault>
     columns.one_rate(1)
 }
 
-/// The sampling rate, which is 2400, and the number of records.
-fn sampling(columns: &Columns<'_>) -> Result<u32, Fault>
+/// The sampling rate and the number of records.
+fn check_sampling(columns: &Columns<'_>) -> Result<Sampling, Fault>
     requires { length (parts_of columns.now) ≡ 2 }
-    ensures { MatchResult result (λ n. IsSampling (parts_of columns.now) n) (λ f. RunFault 1 sampling_row columns.now f) }
+    ensures { MatchResult result (λ s. IsSampling (parts_of columns.now) s.rate s.endsamp) (λ f. RunFault 1 sampling_row columns.now f) }
 {
-    columns.sampling_rate(1)?;
-    columns.sample_count(2)
+    let rate = columns.sampling_rate(1)?;
+    let endsamp = columns.sample_count(2)?;
+    Ok(Sampling { rate, endsamp })
 }
 
 /// A date and a time.
@@ -101,16 +111,16 @@ fn read_rates(reader: &mut Reader<'_>) -> Result<(), Fault>
 }
 
 /// The line of the sampling rate and the number of records.
-fn read_sampling(reader: &mut Reader<'_>) -> Result<u32, Fault>
+fn read_sampling(reader: &mut Reader<'_>) -> Result<Sampling, Fault>
     requires { reader.old.number ≤ 1010 }
     ensures number { reader.new.number ≡ reader.old.number + 1 }
     ensures stands { (bytes : List ℕ) (k : ℕ) → StandsAt reader.old bytes k → StandsAt reader.new bytes (k + 1) }
-    ensures line { (bytes : List ℕ) (k : ℕ) → StandsAt reader.old bytes k → MatchResult result (λ n. HasLine bytes k (λ parts. IsSampling parts n))
+    ensures line { (bytes : List ℕ) (k : ℕ) → StandsAt reader.old bytes k → MatchResult result (λ s. HasLine bytes k (λ parts. IsSampling parts s.rate s.endsamp))
         (λ f. (f.line ≡ k + 1) × FaultAt bytes k (LineFault sampling_row) f.field f.kind) }
 {
     let columns = reader.columns(2)?;
-    let endsamp = sampling(&columns)?;
-    Ok(endsamp)
+    let sampling = check_sampling(&columns)?;
+    Ok(sampling)
 }
 
 /// The line of a date and a time.
@@ -148,13 +158,14 @@ pub fn read_settings(reader: &mut Reader<'_>) -> Result<Settings, Fault>
 {
     let lf = read_frequency(reader)?;
     read_rates(reader)?;
-    let endsamp = read_sampling(reader)?;
+    let sampling = read_sampling(reader)?;
     let first = read_stamp(reader)?;
     let trigger = read_stamp(reader)?;
     let form = read_file_type(reader)?;
     Ok(Settings {
         lf,
-        endsamp,
+        rate: sampling.rate,
+        endsamp: sampling.endsamp,
         first,
         trigger,
         form,

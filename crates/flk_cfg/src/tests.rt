@@ -1,5 +1,5 @@
 use crate::{CfgFault, Config, Form, read_cfg};
-use flk_num::Stop;
+use flk_num::{Rate, Stop};
 use flk_text::DecimalValue;
 use std::alloc::{AllocError, Global};
 use std::test::Fail;
@@ -58,6 +58,7 @@ fn reads_a_recorder(rt: HostRuntime) -> Result<(), Fail> {
             assert_eq!(rt; config.device.as_slice(), b"DAQ-7".as_slice());
             assert_eq!(rt; multiplier(&config, 0).n, 12_207_031_250_000_000_000_000);
             assert_eq!(rt; multiplier(&config, 3).n, 30_517_578_125_000_000_000);
+            assert_eq!(rt; config.rate, Rate::R2400);
             assert_eq!(rt; config.endsamp, 1_584_000);
             assert_eq!(rt; config.form, Form::Binary);
         }
@@ -188,5 +189,25 @@ fn names_the_first_fault(rt: HostRuntime) -> Result<(), Fail> {
         )?,
         Some((4, 0, 2))
     );
+    Ok(())
+}
+
+#[test]
+fn reads_two_rates(rt: HostRuntime) -> Result<(), Fail> {
+    let alloc = rt.alloc();
+    for (sampling, fault) in [
+        (b"50\r\n1\r\n4800,4800\r\n".as_slice(), None),
+        (b"50\r\n1\r\n4.8e3,4800\r\n".as_slice(), None),
+        (b"50\r\n1\r\n1200,4800\r\n".as_slice(), Some((6, 1, 7))),
+        (b"50\r\n1\r\n4800.5,4800\r\n".as_slice(), Some((6, 1, 7))),
+    ] {
+        assert_eq!(rt;
+            answer_to(
+                alloc,
+                &[TITLE, COUNTS, CHANNEL, sampling, STAMP, STAMP, END]
+            )?,
+            fault
+        );
+    }
     Ok(())
 }

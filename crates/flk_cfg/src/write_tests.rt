@@ -1,5 +1,5 @@
 use crate::{Analog, Config, Form, Stamp, valid_cfg, write_cfg};
-use flk_num::List;
+use flk_num::{List, Rate};
 use flk_text::DecimalValue;
 use std::alloc::{AllocError, Global};
 use std::test::Fail;
@@ -58,6 +58,7 @@ fn recording(alloc: Global, channel: Analog) -> Result<Config, AllocError> {
         analog,
         digital: List::new(alloc),
         lf: FIFTY,
+        rate: Rate::R2400,
         endsamp: 4800,
         first: START,
         trigger: START,

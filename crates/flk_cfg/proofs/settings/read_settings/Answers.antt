@@ -23,16 +23,16 @@ returns-in_err-read_rates-clause-settings c = λ bytes k s.
     err_exit c.from_residual-in_err-read_rates.result (λ x. AreSettingLines bytes k x) (λ f. FirstOf setting_at 6 bytes k f) c.in_err-read_rates.field-0.0 c.from_residual-in_err-read_rates.ensures.1
     (progress_fault setting_at 6 bytes k 1 c.read_frequency.new.reader c.in_err-read_rates.field-0.0 here p1 (c.in_err-read_rates.ensures.line bytes (k + 1) p1.stands))
 
-pub returns-in_err-endsamp-clause-settings : goal.returns-in_err-endsamp-clause-settings
-returns-in_err-endsamp-clause-settings c = λ bytes k s.
+pub returns-in_err-sampling-clause-settings : goal.returns-in_err-sampling-clause-settings
+returns-in_err-sampling-clause-settings c = λ bytes k s.
     let p0 = progress_start setting_at bytes k c.args.reader.now s in
     let l0 = c.in_ok-lf.ensures.line bytes (k + 0) p0.stands in
     let p1 = progress_step setting_at bytes k 0 c.args.reader.now c.read_frequency.new.reader p0 c.in_ok-lf.ensures.stands (l0.0, l0.1, good_frequency l0.0 c.in_ok-lf.lf.n l0.2) in
     let l1 = c.in_ok-read_rates.ensures.line bytes (k + 1) p1.stands in
     let p2 = progress_step setting_at bytes k 1 c.read_frequency.new.reader c.read_rates.new.reader p1 c.in_ok-read_rates.ensures.stands (l1.0, l1.1, good_rates l1.0 l1.2) in
     let here : 2 < 6 = omega arith in
-    err_exit c.from_residual-in_err-endsamp.result (λ x. AreSettingLines bytes k x) (λ f. FirstOf setting_at 6 bytes k f) c.in_err-endsamp.field-0.0 c.from_residual-in_err-endsamp.ensures.1
-    (progress_fault setting_at 6 bytes k 2 c.read_rates.new.reader c.in_err-endsamp.field-0.0 here p2 (c.in_err-endsamp.ensures.line bytes (k + 2) p2.stands))
+    err_exit c.from_residual-in_err-sampling.result (λ x. AreSettingLines bytes k x) (λ f. FirstOf setting_at 6 bytes k f) c.in_err-sampling.field-0.0 c.from_residual-in_err-sampling.ensures.1
+    (progress_fault setting_at 6 bytes k 2 c.read_rates.new.reader c.in_err-sampling.field-0.0 here p2 (c.in_err-sampling.ensures.line bytes (k + 2) p2.stands))
 
 pub returns-in_err-first-clause-settings : goal.returns-in_err-first-clause-settings
 returns-in_err-first-clause-settings c = λ bytes k s.
@@ -41,8 +41,8 @@ returns-in_err-first-clause-settings c = λ bytes k s.
     let p1 = progress_step setting_at bytes k 0 c.args.reader.now c.read_frequency.new.reader p0 c.in_ok-lf.ensures.stands (l0.0, l0.1, good_frequency l0.0 c.in_ok-lf.lf.n l0.2) in
     let l1 = c.in_ok-read_rates.ensures.line bytes (k + 1) p1.stands in
     let p2 = progress_step setting_at bytes k 1 c.read_frequency.new.reader c.read_rates.new.reader p1 c.in_ok-read_rates.ensures.stands (l1.0, l1.1, good_rates l1.0 l1.2) in
-    let l2 = c.in_ok-endsamp.ensures.line bytes (k + 2) p2.stands in
-    let p3 = progress_step setting_at bytes k 2 c.read_rates.new.reader c.read_sampling.new.reader p2 c.in_ok-endsamp.ensures.stands (l2.0, l2.1, good_sampling l2.0 c.in_ok-endsamp.endsamp l2.2) in
+    let l2 = c.in_ok-sampling.ensures.line bytes (k + 2) p2.stands in
+    let p3 = progress_step setting_at bytes k 2 c.read_rates.new.reader c.read_sampling.new.reader p2 c.in_ok-sampling.ensures.stands (l2.0, l2.1, good_sampling l2.0 c.in_ok-sampling.sampling.rate c.in_ok-sampling.sampling.endsamp l2.2) in
     let here : 3 < 6 = omega arith in
     err_exit c.from_residual-in_err-first.result (λ x. AreSettingLines bytes k x) (λ f. FirstOf setting_at 6 bytes k f) c.in_err-first.field-0.0 c.from_residual-in_err-first.ensures.1
     (progress_fault setting_at 6 bytes k 3 c.read_sampling.new.reader c.in_err-first.field-0.0 here p3 (c.in_err-first.ensures.line bytes (k + 3) p3.stands))
@@ -54,8 +54,8 @@ returns-in_err-trigger-clause-settings c = λ bytes k s.
     let p1 = progress_step setting_at bytes k 0 c.args.reader.now c.read_frequency.new.reader p0 c.in_ok-lf.ensures.stands (l0.0, l0.1, good_frequency l0.0 c.in_ok-lf.lf.n l0.2) in
     let l1 = c.in_ok-read_rates.ensures.line bytes (k + 1) p1.stands in
     let p2 = progress_step setting_at bytes k 1 c.read_frequency.new.reader c.read_rates.new.reader p1 c.in_ok-read_rates.ensures.stands (l1.0, l1.1, good_rates l1.0 l1.2) in
-    let l2 = c.in_ok-endsamp.ensures.line bytes (k + 2) p2.stands in
-    let p3 = progress_step setting_at bytes k 2 c.read_rates.new.reader c.read_sampling.new.reader p2 c.in_ok-endsamp.ensures.stands (l2.0, l2.1, good_sampling l2.0 c.in_ok-endsamp.endsamp l2.2) in
+    let l2 = c.in_ok-sampling.ensures.line bytes (k + 2) p2.stands in
+    let p3 = progress_step setting_at bytes k 2 c.read_rates.new.reader c.read_sampling.new.reader p2 c.in_ok-sampling.ensures.stands (l2.0, l2.1, good_sampling l2.0 c.in_ok-sampling.sampling.rate c.in_ok-sampling.sampling.endsamp l2.2) in
     let l3 = c.in_ok-first.ensures.line bytes (k + 3) p3.stands in
     let p4 = progress_step setting_at bytes k 3 c.read_sampling.new.reader c.read_stamp.new.reader p3 c.in_ok-first.ensures.stands (l3.0, l3.1, good_stamp l3.0 c.in_ok-first.first l3.2) in
     let here : 4 < 6 = omega arith in
@@ -69,8 +69,8 @@ returns-in_err-form-clause-settings c = λ bytes k s.
     let p1 = progress_step setting_at bytes k 0 c.args.reader.now c.read_frequency.new.reader p0 c.in_ok-lf.ensures.stands (l0.0, l0.1, good_frequency l0.0 c.in_ok-lf.lf.n l0.2) in
     let l1 = c.in_ok-read_rates.ensures.line bytes (k + 1) p1.stands in
     let p2 = progress_step setting_at bytes k 1 c.read_frequency.new.reader c.read_rates.new.reader p1 c.in_ok-read_rates.ensures.stands (l1.0, l1.1, good_rates l1.0 l1.2) in
-    let l2 = c.in_ok-endsamp.ensures.line bytes (k + 2) p2.stands in
-    let p3 = progress_step setting_at bytes k 2 c.read_rates.new.reader c.read_sampling.new.reader p2 c.in_ok-endsamp.ensures.stands (l2.0, l2.1, good_sampling l2.0 c.in_ok-endsamp.endsamp l2.2) in
+    let l2 = c.in_ok-sampling.ensures.line bytes (k + 2) p2.stands in
+    let p3 = progress_step setting_at bytes k 2 c.read_rates.new.reader c.read_sampling.new.reader p2 c.in_ok-sampling.ensures.stands (l2.0, l2.1, good_sampling l2.0 c.in_ok-sampling.sampling.rate c.in_ok-sampling.sampling.endsamp l2.2) in
     let l3 = c.in_ok-first.ensures.line bytes (k + 3) p3.stands in
     let p4 = progress_step setting_at bytes k 3 c.read_sampling.new.reader c.read_stamp.new.reader p3 c.in_ok-first.ensures.stands (l3.0, l3.1, good_stamp l3.0 c.in_ok-first.first l3.2) in
     let l4 = c.in_ok-trigger.ensures.line bytes (k + 4) p4.stands in
@@ -86,8 +86,8 @@ returns-clause-stands c = λ bytes k s.
     let p1 = progress_step setting_at bytes k 0 c.args.reader.now c.read_frequency.new.reader p0 c.in_ok-lf.ensures.stands (l0.0, l0.1, good_frequency l0.0 c.in_ok-lf.lf.n l0.2) in
     let l1 = c.in_ok-read_rates.ensures.line bytes (k + 1) p1.stands in
     let p2 = progress_step setting_at bytes k 1 c.read_frequency.new.reader c.read_rates.new.reader p1 c.in_ok-read_rates.ensures.stands (l1.0, l1.1, good_rates l1.0 l1.2) in
-    let l2 = c.in_ok-endsamp.ensures.line bytes (k + 2) p2.stands in
-    let p3 = progress_step setting_at bytes k 2 c.read_rates.new.reader c.read_sampling.new.reader p2 c.in_ok-endsamp.ensures.stands (l2.0, l2.1, good_sampling l2.0 c.in_ok-endsamp.endsamp l2.2) in
+    let l2 = c.in_ok-sampling.ensures.line bytes (k + 2) p2.stands in
+    let p3 = progress_step setting_at bytes k 2 c.read_rates.new.reader c.read_sampling.new.reader p2 c.in_ok-sampling.ensures.stands (l2.0, l2.1, good_sampling l2.0 c.in_ok-sampling.sampling.rate c.in_ok-sampling.sampling.endsamp l2.2) in
     let l3 = c.in_ok-first.ensures.line bytes (k + 3) p3.stands in
     let p4 = progress_step setting_at bytes k 3 c.read_sampling.new.reader c.read_stamp.new.reader p3 c.in_ok-first.ensures.stands (l3.0, l3.1, good_stamp l3.0 c.in_ok-first.first l3.2) in
     let l4 = c.in_ok-trigger.ensures.line bytes (k + 4) p4.stands in
@@ -103,8 +103,8 @@ returns-clause-settings c = λ bytes k s.
     let p1 = progress_step setting_at bytes k 0 c.args.reader.now c.read_frequency.new.reader p0 c.in_ok-lf.ensures.stands (l0.0, l0.1, good_frequency l0.0 c.in_ok-lf.lf.n l0.2) in
     let l1 = c.in_ok-read_rates.ensures.line bytes (k + 1) p1.stands in
     let p2 = progress_step setting_at bytes k 1 c.read_frequency.new.reader c.read_rates.new.reader p1 c.in_ok-read_rates.ensures.stands (l1.0, l1.1, good_rates l1.0 l1.2) in
-    let l2 = c.in_ok-endsamp.ensures.line bytes (k + 2) p2.stands in
-    let p3 = progress_step setting_at bytes k 2 c.read_rates.new.reader c.read_sampling.new.reader p2 c.in_ok-endsamp.ensures.stands (l2.0, l2.1, good_sampling l2.0 c.in_ok-endsamp.endsamp l2.2) in
+    let l2 = c.in_ok-sampling.ensures.line bytes (k + 2) p2.stands in
+    let p3 = progress_step setting_at bytes k 2 c.read_rates.new.reader c.read_sampling.new.reader p2 c.in_ok-sampling.ensures.stands (l2.0, l2.1, good_sampling l2.0 c.in_ok-sampling.sampling.rate c.in_ok-sampling.sampling.endsamp l2.2) in
     let l3 = c.in_ok-first.ensures.line bytes (k + 3) p3.stands in
     let p4 = progress_step setting_at bytes k 3 c.read_sampling.new.reader c.read_stamp.new.reader p3 c.in_ok-first.ensures.stands (l3.0, l3.1, good_stamp l3.0 c.in_ok-first.first l3.2) in
     let l4 = c.in_ok-trigger.ensures.line bytes (k + 4) p4.stands in
