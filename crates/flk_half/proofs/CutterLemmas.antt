@@ -14,7 +14,7 @@ use Rattle.flk_exact.proofs.CutLemmas.{last_cut-below, last_cut-push, AreCuts-mo
 use Rattle.flk_num.specs.declared.interval.Interval.{Interval}
 use Rattle.flk_num.specs.Interval.{Holds}
 use Rattle.flk_num.specs.Square.{least_size, greatest_size}
-use Rattle.flk_half.specs.Cutter.{IsReachedBy, IsValueAt, IsHalfPeriodInterval, Stands, Continues, EndsBefore, EndsHalfPeriod, HoldsEveryRun, KeepsWidth}
+use Rattle.flk_half.specs.Cutter.{IsReachedBy, IsValueAt, IsHalfPeriodInterval, Stands, Continues, EndsBefore, EndsHalfPeriod, HoldsEveryHalfPeriod, KeepsHalfPeriodWidth}
 use Rattle.flk_half.specs.declared.cutter.Cutter.{Cutter}
 use Rattle.flk_half.proofs.EnclosureLemmas.{half_period_holds}
 use Rattle.flk_half.proofs.WidthLemmas.{half_period_narrow}
@@ -139,13 +139,13 @@ ends_half_period old new sign v i some half since negative least greatest ends l
 
 -- ---- every run, and the width
 
-pub holds_every_run : (old : Cutter) (h : Interval) → IsValueAt old.half old.least h.lo → IsValueAt old.half old.greatest h.hi → HoldsEveryRun old h
+pub holds_every_run : (old : Cutter) (h : Interval) → IsValueAt old.half old.least h.lo → IsValueAt old.half old.greatest h.hi → HoldsEveryHalfPeriod old h
 holds_every_run old h low high = λ half negative voltages cuts run w stands held value.
     let interval : IsHalfPeriodInterval half (drop (last_cut cuts) voltages) h =
     record { low = rw (← stands.same_half, ← stands.least) low; high = rw (← stands.same_half, ← stands.greatest) high } in
     half_period_holds half (drop (last_cut cuts) voltages) (drop (last_cut cuts) run) h w (AllZip-drop Holds (last_cut cuts) voltages run held) interval value
 
-pub keeps_width : (old : Cutter) (h : Interval) → 2 ≤ old.half → old.since ≤ 2 * old.half → IsValueAt old.half old.least h.lo → IsValueAt old.half old.greatest h.hi → KeepsWidth old h
+pub keeps_width : (old : Cutter) (h : Interval) → 2 ≤ old.half → old.since ≤ 2 * old.half → IsValueAt old.half old.least h.lo → IsValueAt old.half old.greatest h.hi → KeepsHalfPeriodWidth old h
 keeps_width old h some few low high = λ half negative voltages cuts delta stands natural narrow.
     let interval : IsHalfPeriodInterval half (drop (last_cut cuts) voltages) h =
     record { low = rw (← stands.same_half, ← stands.least) low; high = rw (← stands.same_half, ← stands.greatest) high } in

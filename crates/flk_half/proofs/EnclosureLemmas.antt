@@ -1,6 +1,7 @@
 -- Intervals of voltages hold the values of half-periods.
-use Rattle.std.proofs.Common.{ℕ, ◌*◌, ◌^◌, ◌≤◌, List, [], ◌∷◌, ℤ, pos, ◌≤ℤ◌, arith}
+use Rattle.std.proofs.Common.{inl, inr, ℕ, ◌*◌, ◌^◌, ◌<◌, ◌≤◌, List, [], ◌∷◌, ℤ, pos, ◌≤ℤ◌, arith}
 use Rattle.std.proofs.Math.Nat.{mul-le-mul_right, le_of_mul-le-mul_left}
+use Rattle.std.proofs.lemmas.Bool.{cases_lt}
 use Rattle.std.specs.Int.RustNames.{unsigned_abs}
 use Rattle.std.proofs.lemmas.Int.{ints}
 use Rattle.std.proofs.lemmas.List.Sums.{sum_by-cons}
@@ -75,3 +76,16 @@ half_period_holds half vs us h w held interval value = record {
   above = value_above half vs us h.lo w held interval.low value;
   below = value_below half vs us h.hi w held interval.high value;
 }
+
+-- a value of at most so many samples of at most five times nominal is at most ten times nominal
+pub value_small : (half s since : ℕ) (w : ℤ) → 0 < half → since ≤ 2 * half → s ≤ 25 * 2 ^ 96 * since → IsValueAt half s w → w ≤ℤ pos 10000000000
+value_small half s since w some few sum value =
+    let n = unsigned_abs w in
+    let reached : n * n * (half * 2 ^ 78) ≤ 5 ^ 18 * s = size-IsReachedBy half s w value.reached in
+    elim (cases_lt 10000000000 n) [
+      | inl more ↦
+          (let square : 10000000000 * 10000000000 ≤ n * n = mul-le 10000000000 10000000000 n n (omega (arith, more)) (omega (arith, more)) in
+          let product : 10000000000 * 10000000000 * (half * 2 ^ 78) ≤ n * n * (half * 2 ^ 78) = mul-le-mul_right (half * 2 ^ 78) square in
+          absurd (omega (arith, product, reached, sum, few, some)))
+      | inr most ↦ omega (arith, ints, most)
+    ]

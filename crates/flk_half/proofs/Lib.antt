@@ -1,3 +1,4 @@
 pub mod CutterLemmas
 pub mod EnclosureLemmas
 pub mod WidthLemmas
+pub mod IntervalsLemmas

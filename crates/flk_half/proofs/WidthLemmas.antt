@@ -15,6 +15,7 @@ use Rattle.flk_exact.proofs.WholeLemmas.{sum-*ℤ, neg-*ℤ, natural_is, twice_p
 use Rattle.flk_num.specs.declared.interval.Interval.{Interval}
 use Rattle.flk_num.specs.Interval.{IsNarrow}
 use Rattle.flk_num.specs.Square.{least_size, greatest_size, least_squares, greatest_squares}
+use Rattle.flk_num.proofs.SizeLemmas.{sizes_apart}
 use Rattle.flk_half.specs.Cutter.{IsValueAt, IsHalfPeriodInterval}
 use Rattle.flk_half.proofs.EnclosureLemmas.{IsReachedBy-size, size-IsReachedBy, IsValueAt-natural}
 
@@ -26,19 +27,6 @@ term : (near far q t a b : ℕ) → far * q ≤ near * q + t → a * b * (far * 
 term near far q t a b h =
     let top : far * q * (far * q) ≤ (near * q + t) * (near * q + t) = mul-le _ _ _ _ h h in
     omega (arith, mul-le-mul_left (a * b) top, weighed_square (near * q) t a b)
-
--- the greatest size is at most the least and the width
-spread : (lo hi : ℤ) (q t : ℕ) → lo ≤ℤ hi → (hi *ℤ pos q) ≤ℤ (lo *ℤ pos q +ℤ pos t) → greatest_size lo hi * q ≤ least_size lo hi * q + t
-spread (pos a) (pos b) q t o h =
-    let top : max a b ≡ b = omega (arith, ints) in
-    rw top (omega (arith, ints))
-spread (pos a) (negsuc b) q t o h = absurd (omega (arith, ints))
-spread (negsuc a) (pos b) q t o h =
-    let top : max (suc a) b ≤ suc a + b = omega arith in
-    omega (arith, ints, mul-le-mul_right q top)
-spread (negsuc a) (negsuc b) q t o h =
-    let top : max (suc a) (suc b) ≡ suc a = omega (arith, ints) in
-    rw top (omega (arith, ints))
 
 -- a voltage's width over the denominator of delta, p over q
 voltage_spread : (v : Interval) (delta : Fraction) (p : ℕ) → delta.num ≡ pos p → IsNarrow delta v → (v.hi *ℤ pos delta.den) ≤ℤ (v.lo *ℤ pos delta.den +ℤ pos (2 ^ 49 * p))
@@ -52,7 +40,7 @@ sums delta p a b [] e h = omega arith
 sums delta p a b (v ∷ vs) e h =
     let q = delta.den in
     let width = voltage_spread v delta p e (All-head (IsNarrow delta) v vs h) in
-    let one = term (least_size v.lo v.hi) (greatest_size v.lo v.hi) q (2 ^ 49 * p) a b (spread v.lo v.hi q (2 ^ 49 * p) v.ordered width) in
+    let one = term (least_size v.lo v.hi) (greatest_size v.lo v.hi) q (2 ^ 49 * p) a b (sizes_apart v.lo v.hi q (2 ^ 49 * p) v.ordered width) in
     rw (sum_by-cons (λ v. least_size v.lo v.hi * least_size v.lo v.hi) v vs, sum_by-cons (λ v. greatest_size v.lo v.hi * greatest_size v.lo v.hi) v vs)
     (omega (arith, sums delta p a b vs e (All-tail (IsNarrow delta) v vs h), one))
 

@@ -1,1 +1,2 @@
 pub mod Cutter
+pub mod Intervals

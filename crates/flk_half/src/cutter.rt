@@ -2,32 +2,9 @@
 
 ghost use Rattle.std.specs.Prelude.{◌≡◌, ◌↔◌, ◌+◌, ◌*◌, ◌/◌, ◌^◌, ◌<◌, ◌≤◌, [], IsTrue, IfSome, IfNone, pos, ◌≤ℤ◌};
 ghost use Rattle.std.specs.Int.RustNames.{unsigned_abs};
-ghost use Rattle.flk_num.specs.Square.{least_size, greatest_size};
+ghost use Rattle.flk_num.specs.Values.{IsHalfPeriodRange};
 
-use flk_num::{Interval, root_floor, square_out};
-
-// Squares of voltages, or sums of them, in units of 2^-96.
-#[derive(Clone, Copy, Debug)]
-struct Squares {
-    least: u128,
-    greatest: u128,
-}
-
-// The least and the greatest square of a voltage of the interval.
-fn squares_of(v: Interval) -> Squares
-    requires low { unsigned_abs v.lo ≤ 5 * 2 ^ 48 }
-    requires high { unsigned_abs v.hi ≤ 5 * 2 ^ 48 }
-    ensures least { result.least ≡ least_size v.lo v.hi * least_size v.lo v.hi }
-    ensures greatest { result.greatest ≡ greatest_size v.lo v.hi * greatest_size v.lo v.hi }
-    ensures ordered { result.least ≤ result.greatest }
-    ensures small { result.greatest ≤ 25 * 2 ^ 96 }
-{
-    let squares = square_out(v);
-    Squares {
-        least: squares.lo as u128,
-        greatest: squares.hi as u128,
-    }
-}
+use flk_num::{Interval, crosses_threads, exact_squares, root_floor};
 
 const FIVE_TO_18: u128 = 3_814_697_265_625;
 
@@ -61,13 +38,15 @@ pub struct Cutter {
 }
 
 impl Cutter {
-    ghost use Rattle.flk_half.specs.Cutter.{Stands, Continues, EndsHalfPeriod, EndsBefore, IsValueAt, HoldsEveryRun, KeepsWidth};
+    ghost use Rattle.flk_half.specs.Cutter.{Stands, Continues, EndsHalfPeriod, EndsBefore, IsValueAt, HoldsEveryHalfPeriod, KeepsHalfPeriodWidth, half_of, since_cut};
 
     /// A cutter of no sample yet, for so many samples in half a nominal period: from 2 to 48.
     pub fn new(half: usize) -> Cutter
         requires low { 2 ≤ half }
         requires high { half ≤ 48 }
-        ensures { Stands result half [] [] [] }
+        ensures stands { Stands result half [] [] [] }
+        ensures half { half_of result ≡ half }
+        ensures since { since_cut result ≡ 0 }
     {
         Cutter {
             half,
@@ -78,23 +57,30 @@ impl Cutter {
         }
     }
 
-    /// Takes the next sample, and answers the interval of the value of the half-period that ended before it, in billionths of
-    /// nominal. None comes exactly where none ended: a half-period ends after `2 * half` samples, or where the sign changes after at
-    /// least `half / 2` of them. (`negative` says whether the sample's recorded voltage is negative; the interval `voltage` is in
-    /// units of 2^-48 of nominal, and its ends are at most five times nominal in size.)
+    /// Takes the next sample, and answers the interval of the value of the half-period that ended before it, in
+    /// billionths of nominal. None comes exactly where none ended: a half-period ends after `2 * half` samples, or
+    /// where the sign changes after at least `half / 2` of them. (`negative` says whether the sample's recorded
+    /// voltage is negative; the interval `voltage` is in units of 2^-48 of nominal, and its ends are at most five
+    /// times nominal in size.)
     ///
-    /// The ends are the values of IEC 61000-3-3, clause 3, at the least and at the greatest squares of the voltages, rounded down. The
-    /// interval holds the value of every run within the intervals taken, and is at most `3 * 10^9 * delta + 3` wide where each of
-    /// them is at most `2 * delta` wide. Takes no memory.
+    /// The ends are the values of IEC 61000-3-3, clause 3, at the least and at the greatest squares of the voltages,
+    /// rounded down. The interval holds the value of every run within the intervals taken, and is at most `3 * 10^9 *
+    /// delta + 3` wide where each of them is at most `2 * delta` wide. Both ends are from 0 to 10^10. Takes no
+    /// memory.
     pub fn push(&mut self, negative: bool, voltage: Interval) -> Option<Interval>
         requires low { unsigned_abs voltage.lo ≤ 5 * 2 ^ 48 }
         requires high { unsigned_abs voltage.hi ≤ 5 * 2 ^ 48 }
         ensures none { IfNone result (Continues self.old self.new negative voltage) }
         ensures some { IfSome result (EndsHalfPeriod self.old self.new negative voltage) }
-        ensures holds { IfSome result (HoldsEveryRun self.old) }
-        ensures narrow { IfSome result (KeepsWidth self.old) }
+        ensures holds { IfSome result (HoldsEveryHalfPeriod self.old) }
+        ensures narrow { IfSome result (KeepsHalfPeriodWidth self.old) }
+        ensures range { IfSome result IsHalfPeriodRange }
+        ensures half { half_of self.new ≡ half_of self.old }
+        ensures since_none { IfNone result (since_cut self.new ≡ since_cut self.old + 1) }
+        ensures since_some { IfSome result (λ _. (half_of self.old ≤ 2 * since_cut self.old)
+            × (since_cut self.new ≡ 1)) }
     {
-        let squares = squares_of(voltage);
+        let squares = exact_squares(voltage);
         if self.ends(negative) {
             let ended = self.interval();
             *self = Cutter {
@@ -142,8 +128,6 @@ impl Cutter {
         root_floor(quotient as i128)
     }
 }
-
-fn crosses_threads<T: Send + Sync>(_value: &T) {}
 
 // A cutter can be handed to another thread, and seen by several at once.
 fn cutter_crosses_threads(cutter: &Cutter) {

@@ -1,4 +1,5 @@
-//! Half-periods of a square wave of nominal voltage: the values are nominal times the root of the number of samples over `half`.
+//! Half-periods of a square wave of nominal voltage: the values are nominal times the root of the number of samples
+//! over `half`.
 
 use crate::Cutter;
 use flk_num::Interval;
