@@ -12,7 +12,8 @@ use Rattle.flk_exact.proofs.ListLemmas.{AllZip-length, AllZip-get_or, AllZip-fro
 use Rattle.flk_num.specs.declared.interval.Interval.{Interval}
 use Rattle.flk_change.specs.declared.flag.Flag.{Flag}
 use Rattle.flk_change.specs.declared.flag.Flag.TheVariants.{Early}
-use Rattle.flk_change.specs.Values.{lows, highs, HoldValues}
+use Rattle.flk_num.specs.Interval.{lows, highs}
+use Rattle.flk_num.specs.Values.{HoldValues}
 use Rattle.flk_change.specs.Steady.{IsSteady, AreFlags}
 use Rattle.flk_change.specs.Changes.{Change, between, after, whole, IsChange, first, stop, level, before, distance, readings, IsStep, Quantity, Dc, Dmax, Tmax, Gives, IsQuantity, IsOfValues}
 use Rattle.flk_change.specs.Resolutions.{Resolves, AreResolved, IsTaken, RunsFrom, IsHull, AreWide, HoldsEachList, least_readings, greatest_readings}
@@ -20,7 +21,7 @@ use Rattle.flk_change.proofs.GreatestLemmas.{greatest_at_most}
 use Rattle.flk_change.proofs.SwingLemmas.{distance_natural, least_natural, greatest_natural, distance_above, distance_below, distance_within, excesses_few}
 use Rattle.flk_change.proofs.LevelLemmas.{level-≤, level-above, level-below}
 use Rattle.flk_change.proofs.SumLemmas.{ends_ordered}
-use Rattle.flk_change.proofs.ValueLemmas.{held_above, held_below, cases_steady, flag_allows}
+use Rattle.flk_change.proofs.ValueLemmas.{lows_are_held, held_above, held_below, cases_steady, flag_allows}
 use Rattle.flk_change.proofs.WideLemmas.{lows_below}
 use Rattle.flk_change.proofs.QuantityLemmas.{Follows, quantity_exists, quantity_≤, quantity_same, stop_within}
 
@@ -126,6 +127,18 @@ resolution_holds q window halves resolution values lo hi m some held runs is = r
   above = quantity_≤ q (IsTaken resolution) window (length halves) (least_readings window halves) (readings window values) lo m (values_above (IsTaken resolution) window halves values some held) runs.low is;
   below = quantity_≤ q (IsTaken resolution) window (length halves) (readings window values) (greatest_readings window halves) m hi (values_below (IsTaken resolution) window halves values some held) is runs.high;
 }
+
+-- the two ends of a resolution's interval are in order, since the lower ends are values within the intervals
+pub least_at_most_greatest : (q : Quantity) (window : ℕ) (halves : List Interval) (resolution : List Bool) (lo hi : ℤ) → 0 < window → RunsFrom q window halves resolution lo hi → lo ≤ℤ hi
+least_at_most_greatest q window halves resolution lo hi some runs =
+    let values = lows halves in
+    let m = quantity_exists q (IsTaken resolution) window (length halves) (readings window values) (cases_taken resolution) (λ t. false≢true t)
+    record {
+      steps = λ j k. distance_natural (level window values k) (level window values j);
+      swings = λ c i low. distance_natural (get_or values i (pos 0)) (before window values c);
+    } in
+    let between = resolution_holds q window halves resolution values lo hi m.0 some (lows_are_held halves) runs m.1 in
+    omega (arith, ints, between.above, between.below)
 
 -- ---- the resolution that the values themselves are
 

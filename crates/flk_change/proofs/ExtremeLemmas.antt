@@ -9,7 +9,7 @@ use Rattle.std.proofs.lemmas.List.Elements.{All-contains}
 use Rattle.flk_exact.specs.Extreme.{IsLeast, IsGreatest}
 use Rattle.flk_exact.proofs.ListLemmas.{Contains-map, Contains-from_map}
 use Rattle.flk_num.specs.declared.interval.Interval.{Interval}
-use Rattle.flk_change.specs.Values.{lows, highs}
+use Rattle.flk_num.specs.Interval.{lows, highs}
 use Rattle.flk_change.specs.Extremes.{least_low, greatest_low, least_high, greatest_high}
 
 least_of : (xs : List ℤ) (a r : ℤ) → r ≡ fold int_min a xs → Contains xs a → IsLeast xs r

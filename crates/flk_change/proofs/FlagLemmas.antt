@@ -14,7 +14,8 @@ use Rattle.flk_num.specs.declared.interval.Interval.{Interval}
 use Rattle.flk_change.specs.declared.flag.Flag.{Flag}
 use Rattle.flk_change.specs.declared.flag.Flag.TheVariants.{Early, Sure, Not, Doubtful}
 use Rattle.flk_change.specs.declared.extremes.Extremes.{Extremes}
-use Rattle.flk_change.specs.Values.{lows, highs, IsInRange}
+use Rattle.flk_num.specs.Interval.{lows, highs}
+use Rattle.flk_num.specs.Values.{IsHalfPeriodRange}
 use Rattle.flk_change.specs.Steady.{window_at, AreSurelyClose, AreSurelyApart, IsFlag, AreFlags}
 use Rattle.flk_change.specs.Extremes.{IsFlagOfExtremes, AreSmall, least_low, greatest_low, least_high, greatest_high}
 use Rattle.flk_change.proofs.LevelLemmas.{length-window_at}
@@ -38,7 +39,7 @@ extremes_are halves v e a b c d there = record {
   greatest_high = greatest_high_is halves v e.greatest_high d there;
 }
 
-pub extremes_small : (halves : List Interval) (e : Extremes) → All IsInRange halves → AreExtremes halves e → AreSmall e
+pub extremes_small : (halves : List Interval) (e : Extremes) → All IsHalfPeriodRange halves → AreExtremes halves e → AreSmall e
 extremes_small halves e range h =
     let low = lows-natural halves range in
     let lows_small = lows-small halves range in

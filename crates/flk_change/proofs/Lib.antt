@@ -11,8 +11,10 @@ pub mod HullLemmas
 pub mod ExtremeLemmas
 pub mod WideLemmas
 pub mod FlagLemmas
+pub mod FlagsLemmas
 pub mod SteadyLemmas
 pub mod ValueLemmas
 pub mod QuantityLemmas
 pub mod EnclosureLemmas
 pub mod WidthLemmas
+pub mod SummaryLemmas

@@ -5,7 +5,7 @@ use Rattle.std.proofs.lemmas.List.{length-map}
 use Rattle.flk_exact.proofs.ListLemmas.{AllZip-get_or}
 use Rattle.flk_exact.proofs.WholeLemmas.{≤ℤ_trans}
 use Rattle.flk_num.specs.declared.interval.Interval.{Interval}
-use Rattle.flk_change.specs.Values.{lows, highs}
+use Rattle.flk_num.specs.Interval.{lows, highs}
 use Rattle.flk_change.specs.Changes.{IsAmong, excesses, IsGreatestOrZero}
 use Rattle.flk_change.specs.Resolutions.{least_distance, greatest_distance}
 use Rattle.flk_change.specs.Pass.{least_swing, greatest_swing}

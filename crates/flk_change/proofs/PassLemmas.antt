@@ -7,7 +7,8 @@ use Rattle.flk_num.specs.declared.interval.Interval.{Interval}
 use Rattle.flk_change.specs.declared.swings.Swings.{Swings}
 use Rattle.flk_change.specs.declared.pass.Outcome.{Outcome}
 use Rattle.flk_change.specs.declared.pass.Pass.{Pass}
-use Rattle.flk_change.specs.Values.{lows, highs, IsInRange}
+use Rattle.flk_num.specs.Interval.{lows, highs}
+use Rattle.flk_num.specs.Values.{IsHalfPeriodRange}
 use Rattle.flk_change.specs.Changes.{Change, between, first, stop, level, before, IsAmong, excesses, IsGreatestOrZero, Quantity, Dc, Dmax, Tmax, Gives, IsQuantity}
 use Rattle.flk_change.specs.Resolutions.{IsTaken, least_distance, greatest_distance, least_readings, greatest_readings}
 use Rattle.flk_change.specs.Pass.{least_swing, greatest_swing, AreSwings, IsClosed, IsClosedQuantity, ClosedRunsFrom, IsClosedOutcome, IsLastTaken, open_change, HasPassed, IsOutcome}
@@ -183,7 +184,7 @@ passed_untaken window halves resolution n p never h = record {
 }
 
 pub passed_taken : (window : ℕ) (halves : List Interval) (resolution : List Bool) (n : ℕ) (q : Pass) → IsTaken resolution (n + 1) → q.last ≡ n + 1
-    → q.before.lo ≡ level window (lows halves) (n + 1) → q.before.hi ≡ level window (highs halves) (n + 1) → IsInRange q.before → IsClosedOutcome window halves resolution (n + 1) q.outcome
+    → q.before.lo ≡ level window (lows halves) (n + 1) → q.before.hi ≡ level window (highs halves) (n + 1) → IsHalfPeriodRange q.before → IsClosedOutcome window halves resolution (n + 1) q.outcome
     → HasPassed window halves resolution (n + 1) q
 passed_taken window halves resolution n q taken last low high range outcome = record {
   last = rw last (last_taken (IsTaken resolution) n taken);

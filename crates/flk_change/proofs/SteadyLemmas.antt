@@ -8,7 +8,7 @@ use Rattle.flk_change.specs.declared.flag.Flag.{Flag}
 use Rattle.flk_change.specs.declared.flag.Flag.TheVariants.{Early}
 use Rattle.flk_change.specs.declared.extremes.Extremes.{Extremes}
 use Rattle.flk_change.specs.declared.steady.Steady.{Steady}
-use Rattle.flk_change.specs.Values.{IsInRange}
+use Rattle.flk_num.specs.Values.{IsHalfPeriodRange}
 use Rattle.flk_change.specs.Steady.{IsFlag, Stands}
 use Rattle.flk_change.specs.Extremes.{IsFlagOfExtremes, least_low, greatest_low, least_high, greatest_high}
 use Rattle.flk_change.proofs.FlagLemmas.{AreExtremes, extremes_are, flag_of_extremes, newest_push, newest_window, newest_holds, newest_full, newest_early}
@@ -59,6 +59,6 @@ pub pushed_extremes : (old new : Buffer Interval) (half : Interval) (e : Extreme
 pushed_extremes old new half e pushed some a b c d =
     extremes_are new.items half e a b c d (subst (λ (xs : List Interval). Contains xs half) (sym (pushed_items old new half pushed)) (newest_holds old.capacity old.items half some))
 
-pub pushed_range : (old new : Buffer Interval) (half : Interval) → IsPushed old new half → All IsInRange old.items → IsInRange half → All IsInRange new.items
+pub pushed_range : (old new : Buffer Interval) (half : Interval) → IsPushed old new half → All IsHalfPeriodRange old.items → IsHalfPeriodRange half → All IsHalfPeriodRange new.items
 pushed_range old new half pushed range in' =
-    subst (All IsInRange) (sym (pushed_items old new half pushed)) (All-drop IsInRange (length (old.items ++ half ∷ []) - old.capacity) (old.items ++ half ∷ []) (All-push IsInRange old.items half range in'))
+    subst (All IsHalfPeriodRange) (sym (pushed_items old new half pushed)) (All-drop IsHalfPeriodRange (length (old.items ++ half ∷ []) - old.capacity) (old.items ++ half ∷ []) (All-push IsHalfPeriodRange old.items half range in'))

@@ -6,7 +6,8 @@ use Rattle.std.proofs.lemmas.List.{get_or-map, length-map}
 use Rattle.std.proofs.lemmas.List.Elements.{All-map, All-take, All-drop, All-weaker}
 use Rattle.flk_exact.proofs.ListLemmas.{AllZip-slice_range, AllZip-from_get_or}
 use Rattle.flk_num.specs.declared.interval.Interval.{Interval}
-use Rattle.flk_change.specs.Values.{lows, highs, IsInRange}
+use Rattle.flk_num.specs.Interval.{lows, highs}
+use Rattle.flk_num.specs.Values.{IsHalfPeriodRange}
 use Rattle.flk_change.specs.Steady.{window_at}
 use Rattle.flk_change.specs.Changes.{total}
 use Rattle.flk_change.specs.Pass.{AreSums}
@@ -19,17 +20,17 @@ lows-get_or halves i d e there = get_or-map (λ h. h.lo) halves i d e there
 pub highs-get_or : (halves : List Interval) (i : ℕ) (d : Interval) (e : ℤ) → i < length halves → get_or (highs halves) i e ≡ (get_or halves i d).hi
 highs-get_or halves i d e there = get_or-map (λ h. h.hi) halves i d e there
 
-pub lows-natural : (halves : List Interval) → All IsInRange halves → All (λ x. pos 0 ≤ℤ x) (lows halves)
-lows-natural halves h = All-map (λ x. pos 0 ≤ℤ x) (λ h. h.lo) halves (All-weaker IsInRange (λ v. pos 0 ≤ℤ v.lo) (λ v r. r.low) halves h)
+pub lows-natural : (halves : List Interval) → All IsHalfPeriodRange halves → All (λ x. pos 0 ≤ℤ x) (lows halves)
+lows-natural halves h = All-map (λ x. pos 0 ≤ℤ x) (λ h. h.lo) halves (All-weaker IsHalfPeriodRange (λ v. pos 0 ≤ℤ v.lo) (λ v r. r.low) halves h)
 
-pub lows-small : (halves : List Interval) → All IsInRange halves → All (λ x. x ≤ℤ pos 10000000000) (lows halves)
-lows-small halves h = All-map (λ x. x ≤ℤ pos 10000000000) (λ h. h.lo) halves (All-weaker IsInRange (λ v. v.lo ≤ℤ pos 10000000000) (λ v r. omega (arith, ints, r.high, v.ordered)) halves h)
+pub lows-small : (halves : List Interval) → All IsHalfPeriodRange halves → All (λ x. x ≤ℤ pos 10000000000) (lows halves)
+lows-small halves h = All-map (λ x. x ≤ℤ pos 10000000000) (λ h. h.lo) halves (All-weaker IsHalfPeriodRange (λ v. v.lo ≤ℤ pos 10000000000) (λ v r. omega (arith, ints, r.high, v.ordered)) halves h)
 
-pub highs-natural : (halves : List Interval) → All IsInRange halves → All (λ x. pos 0 ≤ℤ x) (highs halves)
-highs-natural halves h = All-map (λ x. pos 0 ≤ℤ x) (λ h. h.hi) halves (All-weaker IsInRange (λ v. pos 0 ≤ℤ v.hi) (λ v r. omega (arith, ints, r.low, v.ordered)) halves h)
+pub highs-natural : (halves : List Interval) → All IsHalfPeriodRange halves → All (λ x. pos 0 ≤ℤ x) (highs halves)
+highs-natural halves h = All-map (λ x. pos 0 ≤ℤ x) (λ h. h.hi) halves (All-weaker IsHalfPeriodRange (λ v. pos 0 ≤ℤ v.hi) (λ v r. omega (arith, ints, r.low, v.ordered)) halves h)
 
-pub highs-small : (halves : List Interval) → All IsInRange halves → All (λ x. x ≤ℤ pos 10000000000) (highs halves)
-highs-small halves h = All-map (λ x. x ≤ℤ pos 10000000000) (λ h. h.hi) halves (All-weaker IsInRange (λ v. v.hi ≤ℤ pos 10000000000) (λ v r. r.high) halves h)
+pub highs-small : (halves : List Interval) → All IsHalfPeriodRange halves → All (λ x. x ≤ℤ pos 10000000000) (highs halves)
+highs-small halves h = All-map (λ x. x ≤ℤ pos 10000000000) (λ h. h.hi) halves (All-weaker IsHalfPeriodRange (λ v. v.hi ≤ℤ pos 10000000000) (λ v r. r.high) halves h)
 
 -- the lower ends are at most the upper ones
 pub ends_ordered : (halves : List Interval) → AllZip (λ x y. x ≤ℤ y) (lows halves) (highs halves)
@@ -61,8 +62,8 @@ window_small window j xs h =
     omega (arith, ints, short window j xs, total-below (pos 10000000000) part (All-take (λ x. x ≤ℤ pos 10000000000) (j - (j - window)) (drop (j - window) xs) (All-drop (λ x. x ≤ℤ pos 10000000000) (j - window) xs h)))
 
 -- an interval that stands in the list is in range
-pub range_at : (halves : List Interval) (i : ℕ) (v : Interval) → All IsInRange halves → i < length halves → v ≡ get_or halves i v → IsInRange v
-range_at halves i v range there is = subst IsInRange (sym is) (range i v there)
+pub range_at : (halves : List Interval) (i : ℕ) (v : Interval) → All IsHalfPeriodRange halves → i < length halves → v ≡ get_or halves i v → IsHalfPeriodRange v
+range_at halves i v range there is = subst IsHalfPeriodRange (sym is) (range i v there)
 
 -- the sums of a window of values in range
 pub record AreSmallSums (window : ℕ) (s : Sums) : Type 0 where
@@ -70,7 +71,7 @@ pub record AreSmallSums (window : ℕ) (s : Sums) : Type 0 where
   pub ordered : s.low ≤ℤ s.high
   pub high : s.high ≤ℤ pos (10000000000 * window)
 
-pub sums_small : (window j : ℕ) (halves : List Interval) (s : Sums) → All IsInRange halves → AreSums window halves j s → AreSmallSums window s
+pub sums_small : (window j : ℕ) (halves : List Interval) (s : Sums) → All IsHalfPeriodRange halves → AreSums window halves j s → AreSmallSums window s
 sums_small window j halves s range sums = record {
   low = omega (arith, ints, sums.low, window_natural window j (lows halves) (lows-natural halves range));
   ordered = omega (arith, ints, sums.low, sums.high, total-≤ (window_at window (lows halves) j) (window_at window (highs halves) j) (AllZip-slice_range (λ x y. x ≤ℤ y) (j - window) j (lows halves) (highs halves) (ends_ordered halves)));

@@ -10,7 +10,8 @@ use Rattle.flk_exact.proofs.ExtremeLemmas.{least_exists, greatest_exists, least_
 use Rattle.flk_num.specs.declared.interval.Interval.{Interval}
 use Rattle.flk_change.specs.declared.flag.Flag.{Flag}
 use Rattle.flk_change.specs.declared.flag.Flag.TheVariants.{Early, Sure, Not, Doubtful}
-use Rattle.flk_change.specs.Values.{lows, highs, HoldValues, IsNarrow}
+use Rattle.flk_num.specs.Interval.{lows, highs}
+use Rattle.flk_num.specs.Values.{HoldValues, IsNoWider}
 use Rattle.flk_change.specs.Steady.{window_at, IsSteady, IsSpread, IsFlag}
 use Rattle.flk_change.specs.Resolutions.{Resolves}
 use Rattle.flk_change.proofs.LevelLemmas.{length-window_at}
@@ -120,10 +121,10 @@ flag_allows window halves values j Doubtful steady held there f to from = tt
 
 -- ---- a Doubtful window is near the limit
 
-window_narrow : (window j width : ℕ) (halves : List Interval) → All (IsNarrow width) halves → All (IsNarrow width) (window_at window halves j)
-window_narrow window j width halves narrow = All-take (IsNarrow width) (j - (j - window)) (drop (j - window) halves) (All-drop (IsNarrow width) (j - window) halves narrow)
+window_narrow : (window j width : ℕ) (halves : List Interval) → All (IsNoWider width) halves → All (IsNoWider width) (window_at window halves j)
+window_narrow window j width halves narrow = All-take (IsNoWider width) (j - (j - window)) (drop (j - window) halves) (All-drop (IsNoWider width) (j - window) halves narrow)
 
-pub doubtful_is_near : (window j width : ℕ) (halves : List Interval) (values : List ℤ) (spread : ℤ) → All (IsNarrow width) halves → HoldValues halves values → IsFlag window halves j Doubtful → IsSpread (window_at window values j) spread
+pub doubtful_is_near : (window j width : ℕ) (halves : List Interval) (values : List ℤ) (spread : ℤ) → All (IsNoWider width) halves → HoldValues halves values → IsFlag window halves j Doubtful → IsSpread (window_at window values j) spread
     → IsBetween (pos 4000000 -ℤ pos (width + width)) (pos 4000000 +ℤ pos (width + width)) spread
 doubtful_is_near window j width halves values spread narrow held f s =
     let hs = window_at window halves j in
@@ -135,16 +136,16 @@ doubtful_is_near window j width halves values spread narrow held f s =
           (λ small. absurd (f.1 (λ v w a b.
           let x = held_by hs vs v part a in
           let y = held_by hs vs w part b in
-          let nv = All-contains (IsNarrow width) hs v thin a in
-          let nw = All-contains (IsNarrow width) hs w thin b in
+          let nv = All-contains (IsNoWider width) hs v thin a in
+          let nw = All-contains (IsNoWider width) hs w thin b in
           omega (arith, ints, small, nv.within, nw.within, x.2.above, y.2.below, spread_bounds vs spread x.0 y.0 s x.1 y.1))))
           (λ most. most);
       below = by_lt_z (pos 4000000 +ℤ pos (width + width)) spread
           (λ large.
           let v = holder hs vs s.greatest part s.is_greatest.among in
           let w = holder hs vs s.least part s.is_least.among in
-          let nv = All-contains (IsNarrow width) hs v.0 thin v.1 in
-          let nw = All-contains (IsNarrow width) hs w.0 thin w.1 in
+          let nv = All-contains (IsNoWider width) hs v.0 thin v.1 in
+          let nw = All-contains (IsNoWider width) hs w.0 thin w.1 in
           absurd (f.2 (v.0, w.0, v.1, w.1, omega (arith, ints, large, s.is, nv.within, nw.within, v.2.below, w.2.above))))
           (λ most. most);
     }

@@ -8,7 +8,8 @@ use Rattle.std.proofs.lemmas.List.Elements.{All-cons, All-map, All-append, All-c
 use Rattle.flk_exact.specs.Extreme.{IsLeast, IsGreatest}
 use Rattle.flk_exact.proofs.ListLemmas.{AllZip-get_or, Contains-map}
 use Rattle.flk_num.specs.declared.interval.Interval.{Interval}
-use Rattle.flk_change.specs.Values.{lows, highs, IsInRange}
+use Rattle.flk_num.specs.Interval.{lows, highs}
+use Rattle.flk_num.specs.Values.{IsHalfPeriodRange}
 use Rattle.flk_change.specs.Changes.{distance}
 use Rattle.flk_change.specs.Resolutions.{greatest_distance}
 use Rattle.flk_change.proofs.SwingLemmas.{distance_below}
@@ -55,7 +56,7 @@ furthest_of halves l g m low high is =
     }
 
 -- the least and the greatest end are in range
-pub span_in_range : (halves : List Interval) (v : Interval) → All IsInRange halves → IsLeast (lows halves) v.lo → IsGreatest (highs halves) v.hi → IsInRange v
+pub span_in_range : (halves : List Interval) (v : Interval) → All IsHalfPeriodRange halves → IsLeast (lows halves) v.lo → IsGreatest (highs halves) v.hi → IsHalfPeriodRange v
 span_in_range halves v range low high = record {
   low = All-contains (λ x. pos 0 ≤ℤ x) (lows halves) v.lo (lows-natural halves range) low.among;
   high = All-contains (λ x. x ≤ℤ pos 10000000000) (highs halves) v.hi (highs-small halves range) high.among;

@@ -9,10 +9,11 @@ use Rattle.flk_exact.proofs.ListLemmas.{AllZip-length, AllZip-get_or}
 use Rattle.flk_num.specs.declared.interval.Interval.{Interval}
 use Rattle.flk_change.specs.declared.flag.Flag.{Flag}
 use Rattle.flk_change.specs.declared.flag.Flag.TheVariants.{Early, Sure, Not, Doubtful}
-use Rattle.flk_change.specs.Values.{lows, highs, IsNarrow}
+use Rattle.flk_num.specs.Interval.{lows, highs}
+use Rattle.flk_num.specs.Values.{IsNoWider}
 use Rattle.flk_change.specs.Steady.{IsFlag, AreFlags}
 use Rattle.flk_change.specs.Changes.{Change, between, after, whole, IsChange, first, stop, level, before, excesses, Dc, Dmax, Tmax, Gives}
-use Rattle.flk_change.specs.Resolutions.{Resolves, AreResolved, IsTaken, KeepsWidth, KeepsCount, KeepsSwings, AreNearLimit, least_readings, greatest_readings}
+use Rattle.flk_change.specs.Resolutions.{Resolves, AreResolved, IsTaken, KeepsQuantityWidth, KeepsCount, KeepsSwings, AreNearLimit, least_readings, greatest_readings}
 use Rattle.flk_change.proofs.GreatestLemmas.{greatest_within}
 use Rattle.flk_change.proofs.SwingLemmas.{distance_width, excesses_cover}
 use Rattle.flk_change.proofs.LevelLemmas.{level-wider}
@@ -20,9 +21,9 @@ use Rattle.flk_change.proofs.QuantityLemmas.{Follows, dc_follows, dmax_follows}
 use Rattle.flk_change.proofs.ValueLemmas.{doubtful_is_near}
 
 -- upper ends are at most the width above the lower ones
-ends_narrow : (width : ℕ) (halves : List Interval) → All (IsNarrow width) halves → AllZip (λ x y. y ≤ℤ (x +ℤ pos width)) (lows halves) (highs halves)
+ends_narrow : (width : ℕ) (halves : List Interval) → All (IsNoWider width) halves → AllZip (λ x y. y ≤ℤ (x +ℤ pos width)) (lows halves) (highs halves)
 ends_narrow width [] narrow = tt
-ends_narrow width (h ∷ hs) narrow = ((All-head (IsNarrow width) h hs narrow).within, ends_narrow width hs (All-tail (IsNarrow width) h hs narrow))
+ends_narrow width (h ∷ hs) narrow = ((All-head (IsNoWider width) h hs narrow).within, ends_narrow width hs (All-tail (IsNoWider width) h hs narrow))
 
 -- a window that is taken as steady is whole, and one of the half-periods'
 resolved_whole : (window : ℕ) (halves : List Interval) (j : ℕ) (f : Flag) → IsFlag window halves j f → Resolves f true → window ≤ j
@@ -50,7 +51,7 @@ before_wider steady window n width xs ys (between j k) some fits z is = level-wi
 before_wider steady window n width xs ys (after j) some fits z is = level-wider window width xs ys j some (fits j is.0).0 (fits j is.0).1 z
 before_wider steady window n width xs ys whole some fits z is = omega (arith, ints)
 
-readings_wider : (window width : ℕ) (halves : List Interval) (flags : List Flag) (resolution : List Bool) → 0 < window → All (IsNarrow width) halves → AreFlags window halves flags → AreResolved flags resolution
+readings_wider : (window width : ℕ) (halves : List Interval) (flags : List Flag) (resolution : List Bool) → 0 < window → All (IsNoWider width) halves → AreFlags window halves flags → AreResolved flags resolution
     → Follows (IsTaken resolution) (length halves) (pos (width + width)) (greatest_readings window halves) (least_readings window halves)
 readings_wider window width halves flags resolution some narrow are is =
     let low = lows halves in
@@ -78,12 +79,12 @@ readings_wider window width halves flags resolution some narrow are is =
           );
     }
 
-pub dc_keeps_width : (window : ℕ) (halves : List Interval) (flags : List Flag) → 0 < window → AreFlags window halves flags → KeepsWidth Dc window halves flags
+pub dc_keeps_width : (window : ℕ) (halves : List Interval) (flags : List Flag) → 0 < window → AreFlags window halves flags → KeepsQuantityWidth Dc window halves flags
 dc_keeps_width window halves flags some are = λ width resolution lo hi narrow is runs.
     dc_follows (IsTaken resolution) window (length halves) (pos (width + width)) (greatest_readings window halves) (least_readings window halves) hi lo (omega (arith, ints))
     (readings_wider window width halves flags resolution some narrow are is) runs.high runs.low
 
-pub dmax_keeps_width : (window : ℕ) (halves : List Interval) (flags : List Flag) → 0 < window → AreFlags window halves flags → KeepsWidth Dmax window halves flags
+pub dmax_keeps_width : (window : ℕ) (halves : List Interval) (flags : List Flag) → 0 < window → AreFlags window halves flags → KeepsQuantityWidth Dmax window halves flags
 dmax_keeps_width window halves flags some are = λ width resolution lo hi narrow is runs.
     dmax_follows (IsTaken resolution) window (length halves) (pos (width + width)) (greatest_readings window halves) (least_readings window halves) hi lo (omega (arith, ints))
     (readings_wider window width halves flags resolution some narrow are is) runs.high runs.low

@@ -1,28 +1,29 @@
--- Voltage changes (IEC 61000-3-3, clause 3), and the three quantities that are judged by them: dc, dmax and Tmax. They are stated
--- once, for any set of steady windows and any reading of distances, so that exact values and the two ends of intervals are cases of
--- one rule.
+-- Voltage changes (IEC 61000-3-3, clause 3), and the three quantities that are judged by them: dc, dmax and Tmax.
+-- They are stated once, for any set of steady windows and any reading of distances, so that exact values and the two
+-- ends of intervals are cases of one rule.
 use Rattle.std.specs.Prelude.{◌≡◌, ◌⊎◌, ℕ, ◌+◌, ◌-◌, ◌<◌, ◌≤◌, List, [], ◌∷◌, length, slice_index_or, ℤ, pos, ◌+ℤ◌, ◌-ℤ◌, ◌≤ℤ◌, int_lt}
 use Rattle.std.specs.Int.{int_max}
 use Rattle.std.specs.List.{count_by, range_with_len}
 use Rattle.flk_exact.specs.Rounding.{floor_of}
 use Rattle.flk_change.specs.Steady.{window_at, IsSteady}
 
--- A change stands between a steady window, which ends after the first j half-periods, and the next one, which ends after the first k;
--- or it is open, after the last steady window; or no window is steady, and all half-periods form one open change.
+-- A change stands between a steady window, which ends after the first j half-periods, and the next one, which ends
+-- after the first k; or it is open, after the last steady window; or no window is steady, and all half-periods form
+-- one open change.
 pub data Change : Type 0 where
   between : ℕ → ℕ → Change
   after : ℕ → Change
   whole : Change
 
--- These are the changes of n half-periods, where `steady j` says that the window that ends after the first j is steady. Between
--- windows that end one half-period apart there is none.
+-- These are the changes of n half-periods, where `steady j` says that the window that ends after the first j is
+-- steady. Between windows that end one half-period apart there is none.
 abbrev pub IsChange : (ℕ → Type 0) → ℕ → Change → Type 0
 IsChange steady n (between j k) = steady j × steady k × (j + 1 < k) × (k ≤ n) × ((i : ℕ) → j < i → i < k → ¬ steady i)
 IsChange steady n (after j) = steady j × (j < n) × ((i : ℕ) → j < i → i ≤ n → ¬ steady i)
 IsChange steady n whole = (i : ℕ) → i ≤ n → ¬ steady i
 
--- The half-periods of a change, counted from 0, are those from `first` to before `stop`: what follows the first window and comes
--- before the second.
+-- The half-periods of a change, counted from 0, are those from `first` to before `stop`: what follows the first
+-- window and comes before the second.
 abbrev pub first : Change → ℕ
 first (between j k) = j
 first (after j) = j
@@ -50,8 +51,8 @@ before window values whole = pos 1000000000
 abbrev pub distance : ℤ → ℤ → ℤ
 distance p q = int_max (p -ℤ q) (q -ℤ p)
 
--- What is read of changes: how far the levels of two steady windows are apart, and how far half-period i is from the level before a
--- change.
+-- What is read of changes: how far the levels of two steady windows are apart, and how far half-period i is from the
+-- level before a change.
 pub record Readings : Type 0 where
   pub step : ℕ → ℕ → ℤ
   pub swing : Change → ℕ → ℤ
@@ -77,8 +78,9 @@ IsAmong f a b x = (i : ℕ) × (a ≤ i) × (i < b) × (x ≡ f i)
 abbrev pub excesses : (ℕ → ℤ) → ℕ → ℕ → ℕ
 excesses f a b = count_by (λ i. int_lt (pos 33000000) (f i)) (range_with_len a (b - a))
 
--- IEC 61000-3-3, clauses 3 and 5: dc is the maximum steady-state voltage change, dmax the maximum absolute voltage change, and Tmax
--- the most time of one change, added up and here in half-periods, at which the voltage is more than 3.3 percent from the level before.
+-- IEC 61000-3-3, clauses 3 and 5: dc is the maximum steady-state voltage change, dmax the maximum absolute voltage
+-- change, and Tmax the most time of one change, added up and here in half-periods, at which the voltage is more than
+-- 3.3 percent from the level before.
 pub data Quantity : Type 0 where
   Dc : Quantity
   Dmax : Quantity
@@ -103,4 +105,5 @@ IsQuantity quantity window n steady r m =
 
 -- dc, dmax or Tmax of exact values
 abbrev pub IsOfValues : Quantity → ℕ → List ℤ → ℤ → Type 0
-IsOfValues quantity window values m = IsQuantity quantity window (length values) (IsSteady window values) (readings window values) m
+IsOfValues quantity window values m =
+    IsQuantity quantity window (length values) (IsSteady window values) (readings window values) m

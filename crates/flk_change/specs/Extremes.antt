@@ -1,5 +1,5 @@
--- The least and the greatest ends of half-periods, as the code finds them, and the flag of a whole window by them. No public contract
--- speaks of it.
+-- The least and the greatest ends of half-periods, as the code finds them, and the flag of a whole window by them. No
+-- public contract speaks of it.
 use Rattle.std.specs.Prelude.{List, ℤ, pos, ◌-ℤ◌, ◌<ℤ◌, ◌≤ℤ◌}
 use Rattle.std.specs.Int.{int_min, int_max}
 use Rattle.std.specs.List.{fold}
@@ -25,7 +25,8 @@ abbrev pub IsFlagOfExtremes : Extremes → Flag → Type 0
 IsFlagOfExtremes e Early = ⊥
 IsFlagOfExtremes e Sure = (e.greatest_high -ℤ e.least_low) ≤ℤ pos 4000000
 IsFlagOfExtremes e Not = pos 4000000 <ℤ (e.greatest_low -ℤ e.least_high)
-IsFlagOfExtremes e Doubtful = (pos 4000000 <ℤ (e.greatest_high -ℤ e.least_low)) × ((e.greatest_low -ℤ e.least_high) ≤ℤ pos 4000000)
+IsFlagOfExtremes e Doubtful = (pos 4000000 <ℤ (e.greatest_high -ℤ e.least_low))
+    × ((e.greatest_low -ℤ e.least_high) ≤ℤ pos 4000000)
 
 -- they are from 0 to ten times nominal
 pub record AreSmall (e : Extremes) : Type 0 where

@@ -1,4 +1,3 @@
-pub mod Values
 pub mod Steady
 pub mod Changes
 pub mod Resolutions

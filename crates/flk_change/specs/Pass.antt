@@ -7,7 +7,8 @@ use Rattle.flk_change.specs.declared.level.Sums.{Sums}
 use Rattle.flk_change.specs.declared.swings.Swings.{Swings}
 use Rattle.flk_change.specs.declared.pass.Outcome.{Outcome}
 use Rattle.flk_change.specs.declared.pass.Pass.{Pass}
-use Rattle.flk_change.specs.Values.{lows, highs, IsInRange}
+use Rattle.flk_num.specs.Interval.{lows, highs}
+use Rattle.flk_num.specs.Values.{IsHalfPeriodRange}
 use Rattle.flk_change.specs.Steady.{window_at}
 use Rattle.flk_change.specs.Changes.{Change, between, after, whole, IsChange, total, before, Readings, IsAmong, excesses, IsGreatestOrZero, Quantity, Dc, Dmax, Tmax, Gives}
 use Rattle.flk_change.specs.Resolutions.{IsTaken, RunsFrom, least_distance, greatest_distance, least_readings, greatest_readings}
@@ -19,10 +20,13 @@ pub record AreSums (window : ℕ) (halves : List Interval) (j : ℕ) (s : Sums) 
 
 -- how far half-period i is from a level, at least and at most
 abbrev pub least_swing : List Interval → Interval → ℕ → ℤ
-least_swing halves level i = least_distance (slice_index_or (lows halves) i (pos 0)) (slice_index_or (highs halves) i (pos 0)) level.lo level.hi
+least_swing halves level i =
+    least_distance (slice_index_or (lows halves) i (pos 0)) (slice_index_or (highs halves) i (pos 0)) level.lo level.hi
 
 abbrev pub greatest_swing : List Interval → Interval → ℕ → ℤ
-greatest_swing halves level i = greatest_distance (slice_index_or (lows halves) i (pos 0)) (slice_index_or (highs halves) i (pos 0)) level.lo level.hi
+greatest_swing halves level i =
+    greatest_distance (slice_index_or (lows halves) i (pos 0)) (slice_index_or (highs halves) i (pos 0))
+    level.lo level.hi
 
 -- the greatest of these from half-period `first` to before `stop`, and how many are above 3.3 percent
 pub record AreSwings (halves : List Interval) (level : Interval) (first stop : ℕ) (s : Swings) : Type 0 where
@@ -37,18 +41,21 @@ IsClosed steady n (between j k) = IsChange steady n (between j k)
 IsClosed steady n (after j) = ⊥
 IsClosed steady n whole = ⊥
 
--- The greatest number that one of these changes gives, or 0. The half-periods are `count` in all, and the changes are over before
--- the first n of them are.
+-- The greatest number that one of these changes gives, or 0. The half-periods are `count` in all, and the changes are
+-- over before the first n of them are.
 abbrev pub IsClosedQuantity : Quantity → ℕ → ℕ → ℕ → (ℕ → Type 0) → Readings → ℤ → Type 0
 IsClosedQuantity quantity window count n steady r m =
     IsGreatestOrZero (λ x. (c : Change) × IsClosed steady n c × Gives quantity window count r c x) m
 
-pub record ClosedRunsFrom (quantity : Quantity) (window : ℕ) (halves : List Interval) (resolution : List Bool) (n : ℕ) (lo hi : ℤ) : Type 0 where
+pub record ClosedRunsFrom (quantity : Quantity) (window : ℕ) (halves : List Interval) (resolution : List Bool) (n : ℕ)
+    (lo hi : ℤ) : Type 0 where
   pub low : IsClosedQuantity quantity window (length halves) n (IsTaken resolution) (least_readings window halves) lo
-  pub high : IsClosedQuantity quantity window (length halves) n (IsTaken resolution) (greatest_readings window halves) hi
+  pub high : IsClosedQuantity quantity window (length halves) n (IsTaken resolution)
+      (greatest_readings window halves) hi
 
 -- the intervals of these changes
-pub record IsClosedOutcome (window : ℕ) (halves : List Interval) (resolution : List Bool) (n : ℕ) (o : Outcome) : Type 0 where
+pub record IsClosedOutcome (window : ℕ) (halves : List Interval) (resolution : List Bool) (n : ℕ)
+    (o : Outcome) : Type 0 where
   pub dc : ClosedRunsFrom Dc window halves resolution n o.dc.lo o.dc.hi
   pub dmax : ClosedRunsFrom Dmax window halves resolution n o.dmax.lo o.dmax.hi
   pub t : ClosedRunsFrom Tmax window halves resolution n o.t.lo o.t.hi
@@ -69,7 +76,7 @@ pub record HasPassed (window : ℕ) (halves : List Interval) (resolution : List 
   pub last : IsLastTaken (IsTaken resolution) n p.last
   pub before_low : p.before.lo ≡ before window (lows halves) (open_change p.last)
   pub before_high : p.before.hi ≡ before window (highs halves) (open_change p.last)
-  pub in_range : IsInRange p.before
+  pub in_range : IsHalfPeriodRange p.before
   pub outcome : IsClosedOutcome window halves resolution n p.outcome
 
 -- the intervals of a resolution
@@ -78,8 +85,8 @@ pub record IsOutcome (window : ℕ) (halves : List Interval) (resolution : List 
   pub dmax : RunsFrom Dmax window halves resolution o.dmax.lo o.dmax.hi
   pub t : RunsFrom Tmax window halves resolution o.t.lo o.t.hi
 
--- Resolutions are numbered: a number has one binary digit for each Doubtful flag, the lowest for the first. Whether the first window
--- is taken as steady, and the number that is left for the flags after it:
+-- Resolutions are numbered: a number has one binary digit for each Doubtful flag, the lowest for the first. Whether
+-- the first window is taken as steady, and the number that is left for the flags after it:
 abbrev pub takes_steady : Flag → ℕ → Bool
 takes_steady Early choices = false
 takes_steady Sure choices = true
@@ -97,8 +104,10 @@ resolution_of [] choices = []
 resolution_of (f ∷ fs) choices = takes_steady f choices ∷ resolution_of fs (choices_after f choices)
 
 -- v is the least interval that holds the quantity's intervals of the resolutions with a number below n
-pub record IsHullBelow (quantity : Quantity) (window : ℕ) (halves : List Interval) (flags : List Flag) (n : ℕ) (v : Interval) : Type 0 where
-  pub holds : (k : ℕ) (lo hi : ℤ) → k < n → RunsFrom quantity window halves (resolution_of flags k) lo hi → (v.lo ≤ℤ lo) × (hi ≤ℤ v.hi)
+pub record IsHullBelow (quantity : Quantity) (window : ℕ) (halves : List Interval) (flags : List Flag) (n : ℕ)
+    (v : Interval) : Type 0 where
+  pub holds : (k : ℕ) (lo hi : ℤ) → k < n → RunsFrom quantity window halves (resolution_of flags k) lo hi
+      → (v.lo ≤ℤ lo) × (hi ≤ℤ v.hi)
   pub low_reached : (k : ℕ) × (hi : ℤ) × (k < n) × RunsFrom quantity window halves (resolution_of flags k) v.lo hi
   pub high_reached : (k : ℕ) × (lo : ℤ) × (k < n) × RunsFrom quantity window halves (resolution_of flags k) lo v.hi
 

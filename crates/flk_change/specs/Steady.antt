@@ -1,6 +1,6 @@
--- Steady windows, and the flags that tell them over intervals. IEC 61000-3-3 speaks of a voltage change between times at which
--- the voltage is steady for at least one second. The limit on the values of such a second is the project's own: 4,000,000
--- billionths of nominal between any two of them.
+-- Steady windows, and the flags that tell them over intervals. IEC 61000-3-3 speaks of a voltage change between times
+-- at which the voltage is steady for at least one second. The limit on the values of such a second is the project's
+-- own: 4,000,000 billionths of nominal between any two of them.
 use Rattle.std.specs.Prelude.{◌≡◌, ℕ, ◌+◌, ◌-◌, ◌<◌, ◌≤◌, List, length, slice_index_or, slice_range, ℤ, pos, ◌-ℤ◌, ◌<ℤ◌, ◌≤ℤ◌}
 use Rattle.std.specs.List.{Contains}
 use Rattle.circular_buffer.specs.Buffer.{keep_last}
@@ -15,14 +15,14 @@ abbrev pub window_at : {A : Type 0} → ℕ → List A → ℕ → List A
 window_at window xs j = slice_range xs (j - window) j
 
 -- no two of the values differ by more than the limit
-abbrev pub AreClose : List ℤ → Type 0
-AreClose values = (x y : ℤ) → Contains values x → Contains values y → (x -ℤ y) ≤ℤ pos 4000000
+abbrev pub AreWithinLimit : List ℤ → Type 0
+AreWithinLimit values = (x y : ℤ) → Contains values x → Contains values y → (x -ℤ y) ≤ℤ pos 4000000
 
 -- the window that ends after the first j values is whole, and steady
 pub record IsSteady (window : ℕ) (values : List ℤ) (j : ℕ) : Type 0 where
   pub whole : window ≤ j
   pub there : j ≤ length values
-  pub close : AreClose (window_at window values j)
+  pub close : AreWithinLimit (window_at window values j)
 
 -- the greatest of the values less the least
 pub record IsSpread (values : List ℤ) (spread : ℤ) : Type 0 where
@@ -38,15 +38,17 @@ AreSurelyClose halves = (v w : Interval) → Contains halves v → Contains halv
 
 -- whichever values the intervals hold, some two differ by more than the limit
 abbrev pub AreSurelyApart : List Interval → Type 0
-AreSurelyApart halves = (v : Interval) × (w : Interval) × Contains halves v × Contains halves w × (pos 4000000 <ℤ (v.lo -ℤ w.hi))
+AreSurelyApart halves = (v : Interval) × (w : Interval) × Contains halves v × Contains halves w
+    × (pos 4000000 <ℤ (v.lo -ℤ w.hi))
 
--- What the flag after the first j half-periods says of the window that ends there: that it is not whole yet, that it is steady for
--- certain, that it is not for certain, or neither.
+-- What the flag after the first j half-periods says of the window that ends there: that it is not whole yet, that it
+-- is steady for certain, that it is not for certain, or neither.
 abbrev pub IsFlag : ℕ → List Interval → ℕ → Flag → Type 0
 IsFlag window halves j Early = j < window
 IsFlag window halves j Sure = (window ≤ j) × AreSurelyClose (window_at window halves j)
 IsFlag window halves j Not = (window ≤ j) × AreSurelyApart (window_at window halves j)
-IsFlag window halves j Doubtful = (window ≤ j) × (¬ AreSurelyClose (window_at window halves j)) × (¬ AreSurelyApart (window_at window halves j))
+IsFlag window halves j Doubtful = (window ≤ j) × (¬ AreSurelyClose (window_at window halves j))
+    × (¬ AreSurelyApart (window_at window halves j))
 
 -- one flag for each half-period, of the window that ends with it
 pub record AreFlags (window : ℕ) (halves : List Interval) (flags : List Flag) : Type 0 where

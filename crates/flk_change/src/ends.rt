@@ -2,7 +2,7 @@
 
 ghost use Rattle.std.specs.Prelude.{◌≡◌};
 ghost use Rattle.std.specs.Int.{int_min, int_max};
-ghost use Rattle.flk_change.specs.Values.{IsInRange};
+ghost use Rattle.flk_num.specs.Values.{IsHalfPeriodRange};
 ghost use Rattle.flk_change.specs.Resolutions.{least_distance, greatest_distance};
 
 use flk_num::Interval;
@@ -18,8 +18,8 @@ pub(crate) const NOMINAL: Interval = Interval {
 
 /// How far a number of `p` and one of `q` are apart, at least and at most.
 pub(crate) fn distance(p: Interval, q: Interval) -> Interval
-    requires first { IsInRange p }
-    requires second { IsInRange q }
+    requires first { IsHalfPeriodRange p }
+    requires second { IsHalfPeriodRange q }
     ensures low { result.lo ≡ least_distance p.lo p.hi q.lo q.hi }
     ensures high { result.hi ≡ greatest_distance p.lo p.hi q.lo q.hi }
 {

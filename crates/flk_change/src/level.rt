@@ -2,7 +2,7 @@
 
 ghost use Rattle.std.specs.Prelude.{◌≡◌, ◌+◌, ◌*◌, ◌<◌, ◌≤◌, All, length, pos, ◌≤ℤ◌};
 ghost use Rattle.flk_exact.specs.Rounding.{floor_of};
-ghost use Rattle.flk_change.specs.Values.{IsInRange};
+ghost use Rattle.flk_num.specs.Values.{IsHalfPeriodRange};
 ghost use Rattle.flk_change.specs.Pass.{AreSums};
 
 use flk_num::Interval;
@@ -19,7 +19,7 @@ pub(crate) fn slid(sums: Sums, halves: &[Interval], i: usize, window: usize) -> 
     requires within { i < length halves.now }
     requires some { 0 < window }
     requires few { window ≤ 240 }
-    requires in_range { All IsInRange halves.now }
+    requires in_range { All IsHalfPeriodRange halves.now }
     requires sums { AreSums window halves.now i sums }
     ensures { AreSums window halves.now (i + 1) result }
 {
@@ -57,7 +57,7 @@ pub(crate) fn level_of(sums: Sums, window: usize) -> Interval
     requires high { sums.high ≤ℤ pos (10000000000 * window) }
     ensures low { result.lo ≡ floor_of sums.low (pos window) }
     ensures high { result.hi ≡ floor_of sums.high (pos window) }
-    ensures in_range { IsInRange result }
+    ensures in_range { IsHalfPeriodRange result }
 {
     Interval {
         lo: mean(sums.low, window),

@@ -1,13 +1,14 @@
 //! Steady windows and voltage changes of IEC 61000-3-3, over half-periods whose values are known within intervals.
 //!
-//! [`Steady`] takes one half-period after the other and tells of the window that ends with each whether its voltage is steady
-//! ([`Flag`]). [`changes`] takes all half-periods with their flags, and answers dc, dmax and Tmax as intervals that hold these
-//! quantities for every list of exact values within the half-periods' intervals ([`ChangeSummary`]).
+//! [`Steady`] takes one half-period after the other and tells of the window that ends with each whether its voltage
+//! is steady ([`Flag`]). [`changes`] takes all half-periods with their flags, and answers dc, dmax and Tmax as
+//! intervals that hold these quantities for every list of exact values within the half-periods' intervals
+//! ([`ChangeSummary`]).
 //!
-//! Where a window is steady for some values and not for others, its flag is Doubtful. With up to six such flags `changes` goes through
-//! every way to take them (`resolve`). One way is one pass over the half-periods (`pass`), which keeps the sums of the window
-//! (`level`) and judges the half-periods of each change (`swings`). With more than six it answers wide intervals (`wide`).
-//! `docs/CHANGES_AND_DOUBT.md` has a picture.
+//! Where a window is steady for some values and not for others, its flag is Doubtful. With up to six such flags
+//! `changes` goes through every way to take them (`resolve`). One way is one pass over the half-periods (`pass`),
+//! which keeps the sums of the window (`level`) and judges the half-periods of each change (`swings`). With more than
+//! six it answers wide intervals (`wide`). `docs/CHANGES_AND_DOUBT.md` has a picture.
 #![tactic(auto)]
 
 mod choice;
@@ -28,7 +29,8 @@ mod wide;
 pub use flag::Flag;
 pub use laws::{
     certain_flags_hold_for_every_list, certainty_is_by_ends, close_where_spread_is_small,
-    flag_is_one, lower_ends_are_values, quantity_is_one, spread_is_one,
+    flag_is_one, flags_are_one_list, hull_is_one, lower_ends_are_values, quantity_is_one,
+    quantity_of_resolution_is_one, spread_is_one, summary_is_one,
 };
 pub use std::alloc::AllocError as OutOfMemory;
 pub use steady::Steady;

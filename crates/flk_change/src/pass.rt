@@ -2,7 +2,8 @@
 
 ghost use Rattle.std.specs.Prelude.{◌≡◌, ◌+◌, ◌<◌, ◌≤◌, Bool, List, All, length};
 ghost use Rattle.std.specs.Int.{int_max};
-ghost use Rattle.flk_change.specs.Values.{lows, highs, IsInRange};
+ghost use Rattle.flk_num.specs.Interval.{lows, highs};
+ghost use Rattle.flk_num.specs.Values.{IsHalfPeriodRange};
 ghost use Rattle.flk_change.specs.Steady.{AreFlags};
 ghost use Rattle.flk_change.specs.Changes.{level as level_at};
 ghost use Rattle.flk_change.specs.Resolutions.{IsTaken};
@@ -34,8 +35,8 @@ struct Pass {
     outcome: Outcome,
 }
 
-// The outcome with one change more: the step between the steady windows at its ends, which is 0 for an open change, and its
-// half-periods.
+// The outcome with one change more: the step between the steady windows at its ends, which is 0 for an open change,
+// and its half-periods.
 fn with_change(outcome: Outcome, step: Interval, swings: Swings) -> Outcome
     ensures dc_low { result.dc.lo ≡ int_max outcome.dc.lo step.lo }
     ensures dc_high { result.dc.hi ≡ int_max outcome.dc.hi step.hi }
@@ -55,12 +56,13 @@ fn with_change(outcome: Outcome, step: Interval, swings: Swings) -> Outcome
 fn with_closed(pass: Pass, halves: &[Interval], i: usize, window: usize, level: Interval) -> Outcome
     requires within { i < length halves.now }
     requires fits { window ≤ i + 1 }
-    requires in_range { All IsInRange halves.now }
-    requires before { IsInRange pass.before }
-    requires level { IsInRange level }
+    requires in_range { All IsHalfPeriodRange halves.now }
+    requires before { IsHalfPeriodRange pass.before }
+    requires level { IsHalfPeriodRange level }
     requires low { level.lo ≡ level_at window (lows halves.now) (i + 1) }
     requires high { level.hi ≡ level_at window (highs halves.now) (i + 1) }
-    ensures { (resolution : List Bool) → IsTaken resolution (i + 1) → HasPassed window halves.now resolution i pass → IsClosedOutcome window halves.now resolution (i + 1) result }
+    ensures { (resolution : List Bool) → IsTaken resolution (i + 1) → HasPassed window halves.now resolution i pass
+        → IsClosedOutcome window halves.now resolution (i + 1) result }
 {
     if pass.last == 0 {
         return pass.outcome;
@@ -78,11 +80,12 @@ fn with_steady(pass: Pass, halves: &[Interval], i: usize, window: usize, sums: S
     requires some { 0 < window }
     requires few { window ≤ 240 }
     requires fits { window ≤ i + 1 }
-    requires in_range { All IsInRange halves.now }
-    requires before { IsInRange pass.before }
+    requires in_range { All IsHalfPeriodRange halves.now }
+    requires before { IsHalfPeriodRange pass.before }
     requires sums { AreSums window halves.now (i + 1) sums }
-    ensures passed { (resolution : List Bool) → IsTaken resolution (i + 1) → HasPassed window halves.now resolution i pass → HasPassed window halves.now resolution (i + 1) result }
-    ensures in_range { IsInRange result.before }
+    ensures passed { (resolution : List Bool) → IsTaken resolution (i + 1)
+        → HasPassed window halves.now resolution i pass → HasPassed window halves.now resolution (i + 1) result }
+    ensures in_range { IsHalfPeriodRange result.before }
 {
     let level = level_of(sums, window);
     Pass {
@@ -101,7 +104,7 @@ pub(crate) fn outcome_of(
 ) -> Outcome
     requires some { 0 < window }
     requires few { window ≤ 240 }
-    requires in_range { All IsInRange halves.now }
+    requires in_range { All IsHalfPeriodRange halves.now }
     requires flags { AreFlags window halves.now flags.now }
     ensures { IsOutcome window halves.now (resolution_of flags.now choices) result }
 {

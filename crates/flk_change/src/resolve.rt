@@ -2,7 +2,7 @@
 
 ghost use Rattle.std.specs.Prelude.{◌≡◌, ◌<◌, ◌≤◌, All};
 ghost use Rattle.std.specs.Int.{int_min, int_max};
-ghost use Rattle.flk_change.specs.Values.{IsInRange};
+ghost use Rattle.flk_num.specs.Values.{IsHalfPeriodRange};
 ghost use Rattle.flk_change.specs.Steady.{AreFlags};
 ghost use Rattle.flk_change.specs.Changes.{Dc, Dmax, Tmax};
 ghost use Rattle.flk_change.specs.Resolutions.{doubtful_count, IsHull};
@@ -32,7 +32,7 @@ fn joined(p: Outcome, q: Outcome) -> Outcome
 pub(crate) fn resolved(halves: &[Interval], flags: &[Flag], window: usize, doubtful: u32) -> Outcome
     requires some { 0 < window }
     requires few { window ≤ 240 }
-    requires in_range { All IsInRange halves.now }
+    requires in_range { All IsHalfPeriodRange halves.now }
     requires flags { AreFlags window halves.now flags.now }
     requires doubtful { doubtful ≡ doubtful_count flags.now }
     requires most { doubtful ≤ 6 }

@@ -3,7 +3,7 @@
 ghost use Rattle.std.specs.Prelude.{◌≡◌, ℕ, ◌+◌, ◌-◌, ◌^◌, ◌<◌, ◌≤◌, [], ◌∷◌, ◌++◌, List, length, IfOk, All};
 ghost use Rattle.flk_num.specs.declared.interval.Interval.{Interval as IntervalView};
 ghost use Rattle.flk_change.specs.declared.flag.Flag.{Flag as FlagView};
-ghost use Rattle.flk_change.specs.Values.{IsInRange};
+ghost use Rattle.flk_num.specs.Values.{IsHalfPeriodRange};
 ghost use Rattle.flk_change.specs.Extremes.{IsFlagOfExtremes, AreSmall, least_low as least_low_of, greatest_low as greatest_low_of, least_high as least_high_of, greatest_high as greatest_high_of};
 
 use crate::OutOfMemory;
@@ -50,14 +50,14 @@ pub struct Steady {
     newest: HeapCircularBuffer<Interval>,
     count: u32,
     ghost some: { 0 < newest.capacity },
-    ghost in_range: { All IsInRange newest.items },
+    ghost in_range: { All IsHalfPeriodRange newest.items },
 }
 
 impl Steady {
     ghost use Rattle.flk_change.specs.Steady.{Stands, IsFlag, AreFlags, taken};
 
-    /// For windows of so many half-periods, from 1 to 240. One second has 100 at 50 Hz and 120 at 60 Hz. The error comes only where
-    /// no memory is found.
+    /// For windows of so many half-periods, from 1 to 240. One second has 100 at 50 Hz and 120 at 60 Hz. The error
+    /// comes only where no memory is found.
     pub fn new(alloc: Global, window: usize) -> Result<Steady, OutOfMemory>
         requires low { 1 ≤ window }
         requires high { window ≤ 240 }
@@ -70,15 +70,20 @@ impl Steady {
         })
     }
 
-    /// Takes the next half-period, an interval in billionths of nominal from 0 to 10^10, and answers the flag of the window that ends
-    /// with it. Fewer than 2^32 - 1 may come before it. Takes no memory. (IEC 61000-3-3, clause 3: a steady state lasts one second.)
+    /// Takes the next half-period, an interval in billionths of nominal from 0 to 10^10, and answers the flag of the
+    /// window that ends with it. Fewer than 2^32 - 1 may come before it. Takes no memory. (IEC 61000-3-3, clause 3: a
+    /// steady state lasts one second.)
     pub fn push(&mut self, half: Interval) -> Flag
-        requires in_range { IsInRange half }
+        requires in_range { IsHalfPeriodRange half }
         requires few { taken self.old < 2 ^ 32 - 1 }
         ensures taken { taken self.new ≡ taken self.old + 1 }
-        ensures stands { (window : ℕ) (halves : List IntervalView) → Stands self.old window halves → Stands self.new window (halves ++ half ∷ []) }
-        ensures flag { (window : ℕ) (halves : List IntervalView) → Stands self.old window halves → IsFlag window (halves ++ half ∷ []) (length halves + 1) result }
-        ensures flags { (window : ℕ) (halves : List IntervalView) (flags : List FlagView) → Stands self.old window halves → AreFlags window halves flags → AreFlags window (halves ++ half ∷ []) (flags ++ result ∷ []) }
+        ensures stands { (window : ℕ) (halves : List IntervalView) → Stands self.old window halves
+            → Stands self.new window (halves ++ half ∷ []) }
+        ensures flag { (window : ℕ) (halves : List IntervalView) → Stands self.old window halves
+            → IsFlag window (halves ++ half ∷ []) (length halves + 1) result }
+        ensures flags { (window : ℕ) (halves : List IntervalView) (flags : List FlagView)
+            → Stands self.old window halves → AreFlags window halves flags
+            → AreFlags window (halves ++ half ∷ []) (flags ++ result ∷ []) }
     {
         self.count += 1;
         self.newest.push_back(half);

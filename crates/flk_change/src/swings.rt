@@ -1,7 +1,7 @@
 //! The half-periods of one change.
 
 ghost use Rattle.std.specs.Prelude.{◌≡◌, ◌≤◌, All, length, cond, int_lt, pos};
-ghost use Rattle.flk_change.specs.Values.{IsInRange};
+ghost use Rattle.flk_num.specs.Values.{IsHalfPeriodRange};
 ghost use Rattle.flk_change.specs.Pass.{AreSwings};
 
 use crate::ends::distance;
@@ -29,8 +29,8 @@ fn counted(distance: i128) -> usize
 /// The half-periods from `first` to before `stop`, against a level.
 pub(crate) fn swings_of(halves: &[Interval], first: usize, stop: usize, level: Interval) -> Swings
     requires within { stop ≤ length halves.now }
-    requires in_range { All IsInRange halves.now }
-    requires level { IsInRange level }
+    requires in_range { All IsHalfPeriodRange halves.now }
+    requires level { IsHalfPeriodRange level }
     ensures { AreSwings halves.now level first stop result }
 {
     let mut low: i128 = 0;

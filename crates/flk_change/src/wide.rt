@@ -2,7 +2,8 @@
 
 ghost use Rattle.std.specs.Prelude.{◌<◌, All, length};
 ghost use Rattle.flk_exact.specs.Extreme.{IsLeast, IsGreatest};
-ghost use Rattle.flk_change.specs.Values.{lows, highs, IsInRange};
+ghost use Rattle.flk_num.specs.Interval.{lows, highs};
+ghost use Rattle.flk_num.specs.Values.{IsHalfPeriodRange};
 ghost use Rattle.flk_change.specs.Resolutions.{AreWide};
 
 use crate::ends::{NOMINAL, distance};
@@ -29,7 +30,7 @@ fn span(halves: &[Interval]) -> Interval
 /// Intervals from 0 that hold dc, dmax and Tmax whichever windows are steady.
 pub(crate) fn wide(halves: &[Interval]) -> Outcome
     requires some { 0 < length halves.now }
-    requires in_range { All IsInRange halves.now }
+    requires in_range { All IsHalfPeriodRange halves.now }
     ensures { AreWide halves.now result.dc result.dmax result.t }
 {
     let all = span(halves);

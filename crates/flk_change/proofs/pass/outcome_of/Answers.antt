@@ -1,7 +1,7 @@
 use Rattle.std.proofs.Common.{arith, refl, sym, ◌≡◌, ◌∙◌, subst, ℕ, length, ◌<◌}
 use Rattle.flk_change.specs.declared.flag.Flag.TheVariants.{Early}
 use Rattle.flk_change.specs.Pass.{HasPassed, resolution_of}
-use Rattle.flk_change.specs.Values.{lows, highs}
+use Rattle.flk_num.specs.Interval.{lows, highs}
 use Rattle.flk_change.proofs.SumLemmas.{window_start}
 use Rattle.flk_change.proofs.PassLemmas.{passed_start, passed_untaken, outcome_end, taken_at, untaken_at}
 use Rattle.flk_change.proofs.ChoiceLemmas.{choice_at, choice_after}

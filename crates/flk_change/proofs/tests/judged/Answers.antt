@@ -4,7 +4,7 @@ use Rattle.std.proofs.lemmas.Int.{ints}
 use Rattle.std.proofs.lemmas.List.{take_more, take_all}
 use Rattle.std.proofs.lemmas.List.Elements.{All-nil, All-push}
 use Rattle.flk_num.specs.declared.interval.Interval.{Interval}
-use Rattle.flk_change.specs.Values.{IsInRange}
+use Rattle.flk_num.specs.Values.{IsHalfPeriodRange}
 use Rattle.flk_change.specs.Steady.{AreFlags}
 use Rattle.flk_change.proofs.FlagLemmas.{flags_none}
 use Rattle.flk_change.proofs.tests.judged.Goals as goal
@@ -14,7 +14,7 @@ loop-half-init c = record {
   taken = c.in_ok-steady.ensures.taken;
   stands = c.in_ok-steady.ensures.stands;
   flags = rw c.new-flags.ensures.items (flags_none c.args.window);
-  range = All-nil IsInRange;
+  range = All-nil IsHalfPeriodRange;
 }
 
 pub loop-half-preserved : goal.loop-half-preserved
@@ -30,13 +30,13 @@ loop-half-preserved c =
       taken = omega (arith, c.push.ensures.taken, inv.taken);
       stands = rw more (c.push.ensures.stands window front inv.stands);
       flags = rw (more, c.in_ok-push.ensures.items) (c.push.ensures.flags window front c.loop-half.flags.items inv.stands inv.flags);
-      range = rw more (All-push IsInRange front v inv.range (record { low = omega (arith, ints, c.if-half-lt0.false); high = omega (arith, ints, c.if-half-gt10000000000.false) }));
+      range = rw more (All-push IsHalfPeriodRange front v inv.range (record { low = omega (arith, ints, c.if-half-lt0.false); high = omega (arith, ints, c.if-half-gt10000000000.false) }));
     }
 
 pub changes-requires-clause-in_range : goal.changes-requires-clause-in_range
 changes-requires-clause-in_range c =
     let whole = take_all c.loop-half.half-index c.args.halves.now c.loop-half-test.false in
-    subst (All IsInRange) whole c.loop-half.invariant.range
+    subst (All IsHalfPeriodRange) whole c.loop-half.invariant.range
 
 pub changes-requires-clause-flags : goal.changes-requires-clause-flags
 changes-requires-clause-flags c =
