@@ -1,4 +1,6 @@
 pub mod VoltageLemmas
+pub mod MatchingLemmas
+pub mod RangeLemmas
 mod PartsLemmas
 mod SlopeLemmas
 mod SamplesLemmas

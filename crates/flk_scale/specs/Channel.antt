@@ -1,5 +1,5 @@
 -- The channel of a configuration that a number names, and the line frequency of a lamp's supply.
-use Rattle.std.specs.Prelude.{◌≡◌, ℕ, ◌-◌, ◌*◌, ◌^◌, ◌≤◌, List, length, slice_index_or, ℤ, pos}
+use Rattle.std.specs.Prelude.{◌≡◌, ℕ, ◌-◌, ◌*◌, ◌^◌, ◌≤◌, length, slice_index_or, ℤ, pos}
 use Rattle.flk_num.specs.Lamp.{hertz_of}
 use Rattle.flk_num.specs.declared.lamp.Lamp.{Lamp}
 use Rattle.flk_cfg.specs.declared.config.Analog.{Analog}

@@ -1,7 +1,10 @@
 pub mod Voltage
+pub mod Range
+pub mod Channel
+pub mod Scale
+pub mod Matching
+pub mod Faults
 pub mod Unit
 pub mod Parts
 pub mod Samples
 pub mod Slope
-pub mod Scale
-pub mod Channel

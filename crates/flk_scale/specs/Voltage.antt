@@ -5,7 +5,7 @@ use Rattle.std.specs.Int.{is_negative}
 use Rattle.std.specs.Int.RustNames.{unsigned_abs}
 use Rattle.std.specs.Str.{str_eq_ignore_ascii_case}
 use Rattle.std.proofs.Common.{lit<}
-use Rattle.flk_exact.specs.Fraction.{Fraction}
+use Rattle.flk_exact.specs.Fraction.{Fraction, ◌≈ℚ◌, ◌*ℚ◌, whole}
 use Rattle.flk_exact.specs.Rounding.{IsFloor, IsCeil}
 use Rattle.flk_num.specs.declared.interval.Interval.{Interval}
 use Rattle.flk_cfg.specs.declared.config.Analog.{Analog}
@@ -39,3 +39,11 @@ IsOverRange nominal v = 4 * (1000 * nominal) * v.den < unsigned_abs v.num
 pub record IsVoltageInterval (nominal uncertainty : ℕ) (recorded : Fraction) (v : Interval) : Type 0 where
   pub down : IsFloor ((recorded.num -ℤ pos (uncertainty * recorded.den)) *ℤ pos (2 ^ 48)) (pos (1000 * nominal * recorded.den)) v.lo
   pub up : IsCeil ((recorded.num +ℤ pos (uncertainty * recorded.den)) *ℤ pos (2 ^ 48)) (pos (1000 * nominal * recorded.den)) v.hi
+
+-- u is the recorded voltage itself, relative to nominal
+abbrev pub IsRelative : (nominal : ℕ) → (recorded u : Fraction) → Type 0
+IsRelative nominal recorded u = (whole (pos (1000 * nominal)) *ℚ u) ≈ℚ recorded
+
+-- the greatest size of an end of such an interval: 4.01 times nominal, in units of 2^-48, rounded up
+abbrev pub greatest_voltage : ℕ
+greatest_voltage = 1128714656609731

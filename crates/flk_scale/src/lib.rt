@@ -6,10 +6,14 @@
 //! What can be divided is divided once (`parts`): a sample costs products and comparisons alone (`slope`), and which samples are
 //! over range or negative is found beforehand (`samples`).
 //!
-//! [`is_frequency_of`] says whether a line frequency is that of a lamp's supply.
+//! [`match_channel`] tests whether a channel of a configuration can be measured, and [`match_lamp`] which lamp's supply has a line
+//! frequency; a job and the command `levels` share both and [`MatchFault`]. The functions of [`laws`] have empty bodies: their contracts
+//! are laws of the definitions in `specs/`.
 #![tactic(auto)]
 
-mod frequency;
+mod fault;
+mod laws;
+mod matching;
 mod parts;
 mod samples;
 mod scale;
@@ -19,6 +23,12 @@ mod supply;
 mod tests;
 mod unit;
 
-pub use frequency::is_frequency_of;
+pub use fault::MatchFault;
+pub use laws::{
+    channel_can_be_measured_or_has_one_fault, doubt_is_covered, frequency_has_one_lamp_or_none,
+    interval_holds_each_admitted_voltage, interval_is_narrow, interval_is_near, interval_is_small,
+    recorded_voltages_are_within_range_or_have_a_first_over, voltage_has_one_interval,
+};
+pub use matching::{is_frequency_of, match_channel, match_lamp};
 pub use scale::{OverRange, Scale, ScaleFault};
 pub use supply::Supply;

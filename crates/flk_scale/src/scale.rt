@@ -2,9 +2,9 @@
 
 ghost use Rattle.std.specs.Prelude.{◌≡◌, ◌↔◌, ◌+◌, ◌*◌, ◌^◌, ◌<◌, ◌≤◌, IfOk, OnOk, OnErr, IfErr, IsTrue, ℤ, pos, neg_ℤ, ◌+ℤ◌, ◌-ℤ◌, ◌*ℤ◌};
 ghost use Rattle.std.specs.Int.RustNames.{unsigned_abs};
-ghost use Rattle.flk_exact.specs.Fraction.{Fraction};
+ghost use Rattle.flk_exact.specs.Fraction.{Fraction, ◌-ℚ◌, units};
 ghost use Rattle.flk_exact.specs.Run.{IsAdmitted, CoversDoubt};
-ghost use Rattle.flk_num.specs.Interval.{Holds, IsNarrow};
+ghost use Rattle.flk_num.specs.Interval.{Holds, IsNarrow, IsNear, IsSmall};
 ghost use Rattle.flk_scale.specs.Unit.{microvolts};
 ghost use Rattle.flk_scale.specs.Parts.{dividend};
 ghost use Rattle.flk_scale.specs.Slope.{divisor_of, step_dividend};
@@ -52,14 +52,17 @@ pub struct Scale {
     ghost nominal_is: { divisor_of slope * microvolts unit ≡ 1000 * supply.nominal_mv * 10 ^ 24 },
     ghost slope_is: { step_dividend slope ≡ factor *ℤ pos (2 ^ 48) },
     ghost low_is: { dividend low (divisor_of slope) *ℤ pos (microvolts unit)
-        ≡ ((offset -ℤ factor *ℤ pos (2 ^ 31)) *ℤ pos (microvolts unit) -ℤ pos (supply.uncertainty_uv * 10 ^ 24)) *ℤ pos (2 ^ 48) },
+        ≡ ((offset -ℤ factor *ℤ pos (2 ^ 31)) *ℤ pos (microvolts unit) -ℤ pos (supply.uncertainty_uv * 10 ^ 24))
+        *ℤ pos (2 ^ 48) },
     ghost high_is: { dividend high (divisor_of slope) *ℤ pos (microvolts unit)
-        ≡ ((offset -ℤ factor *ℤ pos (2 ^ 31)) *ℤ pos (microvolts unit) +ℤ pos (supply.uncertainty_uv * 10 ^ 24)) *ℤ pos (2 ^ 48) },
+        ≡ ((offset -ℤ factor *ℤ pos (2 ^ 31)) *ℤ pos (microvolts unit) +ℤ pos (supply.uncertainty_uv * 10 ^ 24))
+        *ℤ pos (2 ^ 48) },
     ghost low_rest: { low.rest < divisor_of slope },
     ghost high_rest: { high.rest < divisor_of slope },
     ghost low_small: { unsigned_abs low.quotient ≤ 2 ^ 110 },
     ghost high_small: { unsigned_abs high.quotient ≤ 2 ^ 110 },
-    ghost within_is: { AreSamplesBetween factor offset (neg_ℤ (pos (4 * divisor_of slope))) (pos (4 * divisor_of slope)) within },
+    ghost within_is: { AreSamplesBetween factor offset (neg_ℤ (pos (4 * divisor_of slope)))
+        (pos (4 * divisor_of slope)) within },
     ghost negative_is: { AreSamplesBetween factor offset (neg_ℤ (pos (2 ^ 125))) (neg_ℤ (pos 1)) negative },
 }
 
@@ -101,7 +104,7 @@ fn is_small(n: i128) -> bool
 const LEAST: i128 = -42_535_295_865_117_307_932_921_825_928_971_026_432;
 
 impl Scale {
-    ghost use Rattle.flk_scale.specs.Voltage.{IsOverRange, IsVoltageInterval, is_below_zero, voltage_on_line};
+    ghost use Rattle.flk_scale.specs.Voltage.{IsOverRange, IsVoltageInterval, IsRelative, greatest_voltage, is_below_zero, voltage_on_line};
     ghost use Rattle.flk_scale.specs.Scale.{HasScale, HasNoScale, IsScaleOf, voltage_of, nominal_of, uncertainty_of};
 
     /// The scale of a channel and a supply.
@@ -154,12 +157,22 @@ impl Scale {
     pub fn voltage(&self, x: i32) -> Result<Interval, OverRange>
         ensures over { OnErr result (IsOverRange (nominal_of self.now) (voltage_of self.now x)) }
         ensures within { OnOk result (¬ IsOverRange (nominal_of self.now) (voltage_of self.now x)) }
-        ensures interval { IfOk result (IsVoltageInterval (nominal_of self.now) (uncertainty_of self.now) (voltage_of self.now x)) }
+        ensures interval { IfOk result
+            (IsVoltageInterval (nominal_of self.now) (uncertainty_of self.now) (voltage_of self.now x)) }
 
-        // It holds every exact voltage that the sample admits, is narrow, and its ends are at most five times nominal.
-        ensures holds { IfOk result (λ v. (u : Fraction) → IsAdmitted (1000 * nominal_of self.now) (uncertainty_of self.now) (voltage_of self.now x) u → Holds v u) }
-        ensures narrow { IfOk result (λ v. (delta : Fraction) → CoversDoubt (1000 * nominal_of self.now) (uncertainty_of self.now) delta → IsNarrow delta v) }
-        ensures small { IfOk result (λ v. (unsigned_abs v.lo ≤ 5 * 2 ^ 48) × (unsigned_abs v.hi ≤ 5 * 2 ^ 48)) }
+        // It holds every exact voltage that the sample admits, is narrow, its ends are near the recorded voltage, and they are at most
+        // 4.01 times nominal in size, rounded up.
+        ensures holds { IfOk result (λ v. (u : Fraction)
+            → IsAdmitted (1000 * nominal_of self.now) (uncertainty_of self.now) (voltage_of self.now x) u → Holds v u) }
+        ensures narrow { IfOk result (λ v. (delta : Fraction)
+            → CoversDoubt (1000 * nominal_of self.now) (uncertainty_of self.now) delta → IsNarrow delta v) }
+        ensures near { IfOk result (λ v. (u delta : Fraction)
+            → IsRelative (nominal_of self.now) (voltage_of self.now x) u
+            → CoversDoubt (1000 * nominal_of self.now) (uncertainty_of self.now) delta
+            → IsNear (delta -ℚ units (pos 1)) v u) }
+        ensures ends { IfOk result (λ v. (unsigned_abs v.lo ≤ greatest_voltage)
+            × (unsigned_abs v.hi ≤ greatest_voltage)) }
+        ensures small { IfOk result IsSmall }
     {
         if !self.within.has(x) {
             return Err(OverRange);

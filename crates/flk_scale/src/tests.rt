@@ -1,8 +1,8 @@
 //! Intervals that were computed by exact fractions elsewhere.
 
-use crate::{Scale, ScaleFault, Supply};
+use crate::{MatchFault, Scale, ScaleFault, Supply, match_lamp};
 use flk_cfg::Analog;
-use flk_num::List;
+use flk_num::{Lamp, List};
 use flk_text::DecimalValue;
 use std::alloc::{AllocError, Global};
 use std::test::Fail;
@@ -195,4 +195,15 @@ fn refusals(rt: HostRuntime) -> Result<(), Fail> {
         assert_eq!(rt; answered.err(), fault, "{a} {b}");
     }
     Ok(())
+}
+
+#[test]
+fn lamps(rt: HostRuntime) {
+    let hertz = |n: i128| DecimalValue {
+        n: n * 1_000_000_000_000_000_000_000_000,
+    };
+    assert_eq!(rt; match_lamp(hertz(50)), Ok(Lamp::L230));
+    assert_eq!(rt; match_lamp(hertz(60)), Ok(Lamp::L120));
+    let lf = hertz(55);
+    assert_eq!(rt; match_lamp(lf), Err(MatchFault::Lamp { hertz: 0, lf }));
 }

@@ -6,7 +6,7 @@ use Rattle.flk_scale.specs.Unit.{microvolts}
 use Rattle.flk_scale.specs.Slope.{divisor_of}
 use Rattle.flk_scale.specs.Voltage.{IsVoltageInterval}
 use Rattle.flk_scale.specs.Scale.{voltage_of, nominal_of, uncertainty_of}
-use Rattle.flk_scale.proofs.VoltageLemmas.{voltage_holds, voltage_narrow, voltage_small}
+use Rattle.flk_scale.proofs.VoltageLemmas.{voltage_holds, voltage_narrow, voltage_near, voltage_ends, voltage_small}
 use Rattle.flk_scale.proofs.ScaleLemmas.{within_range, over_range}
 use Rattle.flk_scale.proofs.UnitLemmas.{microvolts_some}
 use Rattle.flk_scale.proofs.scale.Scale.voltage.Goals as goal
@@ -45,15 +45,20 @@ returns-clause-narrow c delta covers =
     let ends : IsVoltageInterval (nominal_of s) (uncertainty_of s) (voltage_of s c.args.x) c.interval.result = search rules in
     voltage_narrow (nominal_of s) (uncertainty_of s) (voltage_of s c.args.x) c.interval.result delta (omega arith) ends covers
 
+pub returns-clause-near : goal.returns-clause-near
+returns-clause-near c u delta own covers =
+    let s = c.args.self.now in
+    let ends : IsVoltageInterval (nominal_of s) (uncertainty_of s) (voltage_of s c.args.x) c.interval.result = search rules in
+    voltage_near (nominal_of s) (uncertainty_of s) (voltage_of s c.args.x) c.interval.result u delta (omega arith) ends own covers
+
+pub returns-clause-ends : goal.returns-clause-ends
+returns-clause-ends c =
+    let s = c.args.self.now in
+    let ends : IsVoltageInterval (nominal_of s) (uncertainty_of s) (voltage_of s c.args.x) c.interval.result = search rules in
+    voltage_ends (nominal_of s) (uncertainty_of s) (voltage_of s c.args.x) c.interval.result (omega arith) (omega arith) (returns-clause-within c) ends
+
 pub returns-clause-small : goal.returns-clause-small
 returns-clause-small c =
     let s = c.args.self.now in
-    let x = c.args.x in
     let ends : IsVoltageInterval (nominal_of s) (uncertainty_of s) (voltage_of s c.args.x) c.interval.result = search rules in
-    let among : IsTrue c.has.result ↔ IsAmong s.within x = search rules in
-    let range = s.within_is x c.ranges.x in
-    voltage_small (nominal_of s) (uncertainty_of s) (voltage_of s x) c.interval.result (omega arith) (omega arith)
-    (λ over. within_range (x *ℤ s.factor +ℤ s.offset) (divisor_of s.slope) (microvolts s.unit) (1000 * s.supply.nominal_mv * 10 ^ 24) (microvolts_some s.unit) s.nominal_is
-    (range.0 (among.0 c.if-not-has.false))
-    (omega (arith, over)))
-    ends
+    voltage_small (nominal_of s) (uncertainty_of s) (voltage_of s c.args.x) c.interval.result (omega arith) (omega arith) (returns-clause-within c) ends
