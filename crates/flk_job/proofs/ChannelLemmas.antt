@@ -37,7 +37,7 @@ one_more zs i ns n h lt e a b new = record {
 
 -- ---- what isn't a list of channels
 
-same_length : (zs : List ℤ) (ds : List ℕ) → map (λ n. pos n) ds ≡ zs → length ds ≡ length zs
+pub same_length : (zs : List ℤ) (ds : List ℕ) → map (λ n. pos n) ds ≡ zs → length ds ≡ length zs
 same_length zs ds e = sym (length-map ds (λ n. pos n)) ∙ ap (λ (x : List ℤ). length x) e
 
 number_at : (zs : List ℤ) (ds : List ℕ) (i : ℕ) → map (λ n. pos n) ds ≡ zs → i < length ds → get_or zs i (pos 0) ≡ pos (get_or ds i 0)

@@ -212,7 +212,7 @@ sets j s h keys.Interval = (j.interval_s, refl, h.interval_some, h.interval)
 pub has_job : (ms : Members) (j : Job) → HasValues ms j → IsSupply j.supply.nominal_mv j.supply.uncertainty_uv → AreInSets j → HasJob ms j
 has_job ms j v s h = record { values = values ms j v; sets = sets j s h }
 
-same_number : (m n : ℕ) → integer (pos m) ≡ integer (pos n) → m ≡ n
+pub same_number : (m n : ℕ) → integer (pos m) ≡ integer (pos n) → m ≡ n
 same_number m n e = ap (λ (d : Data). natural_in (Some d)) e
 
 -- the values of a job that a document has are in their sets

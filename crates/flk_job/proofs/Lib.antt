@@ -3,3 +3,4 @@ pub mod KeyLemmas
 pub mod ChannelLemmas
 pub mod MatchLemmas
 pub mod JobLaws
+pub mod JobCases

@@ -47,6 +47,16 @@ pub record IsJob (bytes : List ℕ) (j : Job) : Type 0 where
   pub known : are_known members ≡ true
   pub job : HasJob members j
 
+-- the seven values of two jobs are the same
+pub record AreSame (i j : Job) : Type 0 where
+  pub lamp : i.lamp ≡ j.lamp
+  pub nominal : i.supply.nominal_mv ≡ j.supply.nominal_mv
+  pub uncertainty : i.supply.uncertainty_uv ≡ j.supply.uncertainty_uv
+  pub channels : i.channels ≡ j.channels
+  pub dmax : i.dmax_percent ≡ j.dmax_percent
+  pub run_in : i.run_in_s ≡ j.run_in_s
+  pub interval : i.interval_s ≡ j.interval_s
+
 -- The values of a job are in the sets of the table, those of its supply by the supply's own facts.
 pub record AreInSets (j : Job) : Type 0 where
   pub channels : AreChannels j.channels

@@ -15,11 +15,15 @@ mod laws;
 mod matching;
 mod values;
 
+pub use flk_scale::MatchFault;
 pub use job::{Job, read_job};
 pub use key::Key;
 pub use kind::{JobFault, Kind};
-pub use laws::{bytes_of_a_job_have_no_fault, bytes_write_one_job};
-pub use matching::{MatchFault, match_job};
+pub use laws::{
+    bytes_are_a_job_or_have_a_fault, bytes_have_one_first_fault, bytes_of_a_job_have_no_fault,
+    bytes_write_one_job, configuration_matches_or_has_one_fault, values_of_a_file_are_in_sets,
+};
+pub use matching::match_job;
 
 #[cfg(test)]
 mod tests;

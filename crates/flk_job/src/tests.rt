@@ -253,3 +253,27 @@ fn tests_the_recording(rt: HostRuntime) -> Result<(), Fail> {
     );
     Ok(())
 }
+
+#[test]
+fn tests_a_recording_of_4800_samples_a_second(rt: HostRuntime) -> Result<(), Fail> {
+    let short: [&[u8]; 4] = [SUPPLY, CHANNEL, LIMIT, TIMES];
+    assert_eq!(rt;
+        matched_one(rt.alloc(), &short[..3], VOLTS, b"50\n1\n4800,4800\n")?,
+        Some(Err(MatchFault::TooShort {
+            needed: 3_168_000,
+            there: 4800
+        }))
+    );
+    assert_eq!(rt;
+        matched_one(rt.alloc(), &short, VOLTS, b"50\n1\n4800,20000001\n")?,
+        Some(Ok(()))
+    );
+    assert_eq!(rt;
+        matched_one(rt.alloc(), &short, VOLTS, b"50\n1\n4800,40000001\n")?,
+        Some(Err(MatchFault::TooLong {
+            limit: 40_000_000,
+            there: 40_000_001
+        }))
+    );
+    Ok(())
+}

@@ -2,4 +2,4 @@ use Rattle.flk_job.proofs.JobLaws.{one_job}
 use Rattle.flk_job.proofs.laws.bytes_write_one_job.Goals as goal
 
 pub returns : goal.returns
-returns c = λ bytes i j a b key. one_job bytes i j a b key
+returns c = one_job

@@ -1,5 +1,5 @@
 use Rattle.std.proofs.Common.{rules, get_or}
-use Rattle.flk_job.specs.Matching.{CanBeMeasured}
+use Rattle.flk_scale.specs.Matching.{CanBeMeasured}
 use Rattle.flk_job.proofs.MatchLemmas.{one_more}
 use Rattle.flk_job.proofs.matching.match_channels.Goals as goal
 

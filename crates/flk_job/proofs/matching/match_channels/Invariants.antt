@@ -1,6 +1,6 @@
 use Rattle.std.proofs.Common.{ℕ, ◌<◌}
 use Rattle.std.specs.Prelude.{slice_index_or}
-use Rattle.flk_job.specs.Matching.{CanBeMeasured}
+use Rattle.flk_scale.specs.Matching.{CanBeMeasured}
 use Rattle.flk_job.proofs.matching.match_channels.Given as goal
 
 -- the channels so far can be measured

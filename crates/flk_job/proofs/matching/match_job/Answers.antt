@@ -3,7 +3,7 @@ use Rattle.std.specs.Result.{IfErr}
 use Rattle.std.specs.Prelude.{Result}
 use Rattle.std.proofs.lemmas.Result.{err_from_is_err_and}
 use Rattle.flk_job.specs.Matching.{IsMatchFault}
-use Rattle.flk_job.specs.declared.matching.MatchFault.{MatchFault}
+use Rattle.flk_scale.specs.declared.fault.MatchFault.{MatchFault}
 use Rattle.flk_job.proofs.MatchLemmas.{channel_fault}
 use Rattle.flk_job.proofs.matching.match_job.Goals as goal
 
