@@ -13,6 +13,8 @@ use Rattle.flk_dat.specs.AsciiRecords.{longest_line, IsLine, LineFault, IsBlank}
 use Rattle.flk_dat.specs.DataFile.{line_at, StandsInFront, IsRecord, FaultInFront, RecordFault, MayFollow}
 use Rattle.flk_dat.specs.Streams.{ends_line, IsUnended, MayBegin, IsPartOf}
 use Rattle.flk_dat.specs.Tails.{tail_after}
+use Rattle.flk_dat.specs.Heads.{Writes, FaultOf}
+use Rattle.flk_dat.specs.declared.channels.Channels.{Channels}
 use Rattle.flk_dat.specs.declared.kind.Kind.{Kind}
 use Rattle.flk_dat.specs.declared.kind.Kind.TheVariants as kinds
 use Rattle.flk_dat.proofs.LineEnds.{unended_before, line_ended, after_ended, mark_of, end_byte, line_unended, after_unended, ended_not_blank, long_line_at, long_not_blank, after_by}
@@ -38,6 +40,13 @@ ascii_part l k bytes form e none begin = subst (λ (f : Form). IsPartOf f l k by
 
 pub ascii_part_is : (l : Layout) (k : ℕ) (bytes : List ℕ) (form : Form) → form ≡ Ascii → IsPartOf form l k bytes → IsUnended (eqb (k + 1) l.records) bytes × MayBegin bytes
 ascii_part_is l k bytes form e part = subst (λ (f : Form). IsPartOf f l k bytes) e part
+
+pub writes_line : (form : Form) (c : Channels) (bytes : List ℕ) (r : DataRecord) → form ≡ Ascii → Writes form c bytes r → IsLine (length c.selected.items) c.digital (without_cr bytes) r
+writes_line form c bytes r e is = subst (λ (f : Form). Writes f c bytes r) e is
+
+pub fault_of_line : (form : Form) (c : Channels) (before : Option ℕ) (bytes : List ℕ) (field : ℕ) (kind : Kind) → form ≡ Ascii → FaultOf form c before bytes field kind
+    → LineFault c.selected.items c.digital before (without_cr bytes) field kind
+fault_of_line form c before bytes field kind e fault = subst (λ (f : Form). FaultOf f c before bytes field kind) e fault
 
 -- ---- the pieces of a line
 

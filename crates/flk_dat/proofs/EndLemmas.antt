@@ -40,20 +40,20 @@ no_more piece rest more some e = omega (arith, some, ap length e, length-append 
 
 -- ---- the rest where a record is due
 
-pub spaces_fall : (old : Reader) → old.form ≡ Ascii → list_all (is_byte 32) old.rest ≡ true → IsHeld old old.rest → RecordFault (layout old) old.given old.before old.rest 0 kinds.Short
+pub spaces_fall : (old : Reader) → old.channels.form ≡ Ascii → list_all (is_byte 32) old.rest ≡ true → IsHeld old old.rest → RecordFault (layout old) old.given old.before old.rest 0 kinds.Short
 spaces_fall old form spaces held =
-    ascii_short (layout old) old.given old.before old.rest form (spaces_blank old.rest (ascii_part_is (layout old) old.given old.rest old.form form held).1 spaces)
+    ascii_short (layout old) old.given old.before old.rest form (spaces_blank old.rest (ascii_part_is (layout old) old.given old.rest old.channels.form form held).1 spaces)
 
-pub line_falls : (old : Reader) (field : ℕ) (kind : Kind) → old.form ≡ Ascii → list_all (is_byte 32) old.rest ≡ false
+pub line_falls : (old : Reader) (field : ℕ) (kind : Kind) → old.channels.form ≡ Ascii → list_all (is_byte 32) old.rest ≡ false
     → LineFault old.channels.selected.items old.channels.digital old.before (without_cr old.rest) field kind → IsHeld old old.rest → RecordFault (layout old) old.given old.before old.rest field kind
 line_falls old field kind form off fault held =
-    fault_in_rest (layout old) old.given old.before old.rest field kind form (ascii_part_is (layout old) old.given old.rest old.form form held).0 off fault
+    fault_in_rest (layout old) old.given old.before old.rest field kind form (ascii_part_is (layout old) old.given old.rest old.channels.form form held).0 off fault
 
 -- ---- a last line without an end
 
 -- the reader gave the record that the rest writes
 pub record LineGiven (old new : Reader) (before after : Rows) (r : DataRecord) : Type 0 where
-  pub form : old.form ≡ Ascii
+  pub form : old.channels.form ≡ Ascii
   pub due : old.given < old.records
   pub layout_same : layout new ≡ layout old
   pub count : new.given ≡ old.given + 1
@@ -79,15 +79,15 @@ reached old new before after r taken given g s =
     let l = layout old in
     let h = rest_due old taken given s g.due in
     let lt : length given < old.records = omega (arith, g.due, s.holds.count) in
-    let none = (ascii_part_is l old.given old.rest old.form g.form h.1).0 in
+    let none = (ascii_part_is l old.given old.rest old.channels.form g.form h.1).0 in
     let left : after_records l (length given) taken ≡ old.rest = ap (after_records l (length given)) (sym (append-nil taken)) ∙ h.0.left [] ∙ append-nil old.rest in
     let first : AreFirst l taken given = subst (λ (b : List ℕ). AreFirst l b given) (append-nil taken) (h.0.first []) in
     let here : IsRecord l (length given) old.rest r = subst (λ (k : ℕ). IsRecord l k old.rest r) s.holds.count (line_at_end l old.given old.rest r g.form none g.line) in
-    let after_rest : after_front old.form l (length given) old.rest ≡ [] = subst (λ (k : ℕ). after_front old.form l k old.rest ≡ []) s.holds.count (after_at_end l old.given old.rest old.form g.form none) in
+    let after_rest : after_front old.channels.form l (length given) old.rest ≡ [] = subst (λ (k : ℕ). after_front old.channels.form l k old.rest ≡ []) s.holds.count (after_at_end l old.given old.rest old.channels.form g.form none) in
     record {
       first = first_more l taken given r first lt (subst (λ (b : List ℕ). IsRecord l (length given) b r) (sym left) here) (subst (λ (o : Option ℕ). Follows o r.number) s.holds.number g.follows);
       present = present_more l given r s.has.present (subst (λ (f : Form). IsPresent f old.channels.selected.items r) (sym g.form) g.present);
-      left = after_next l (length given) taken lt ∙ ap (after_front old.form l (length given)) left ∙ after_rest;
+      left = after_next l (length given) taken lt ∙ ap (after_front old.channels.form l (length given)) left ∙ after_rest;
     }
 
 pub line_ends : (old new : Reader) (before after : Rows) (r : DataRecord) → LineGiven old new before after r → new.given ≡ new.records → Ends old new before after
@@ -100,9 +100,9 @@ line_ends old new before after r g all =
           let x = reached old new before after r taken given g s in
           let last : length given + 1 ≡ old.records = omega (arith, all, records, g.count, s.holds.count) in
           let end : after_records (layout old) old.records taken ≡ [] = ap (λ (k : ℕ). after_records (layout old) k taken) (sym last) ∙ x.left in
-          let nothing : MayFollow old.form [] = subst (λ (f : Form). MayFollow f []) (sym g.form) (record { bytes = refl; one = omega arith }, omega arith) in
+          let nothing : MayFollow old.channels.form [] = subst (λ (f : Form). MayFollow f []) (sym g.form) (record { bytes = refl; one = omega arith }, omega arith) in
           let whole : IsAccepted (layout old) taken (given ++ r ∷ []) = record {
-            file = record { count = length_more given r ∙ last; first = x.first; end = subst (MayFollow old.form) (sym end) nothing };
+            file = record { count = length_more given r ∙ last; first = x.first; end = subst (MayFollow old.channels.form) (sym end) nothing };
             present = x.present;
           } in
           subst (λ (rs : List DataRecord). IsAccepted (layout old) taken (given ++ rs)) (sym more) whole;

@@ -14,7 +14,7 @@ use Rattle.flk_dat.specs.Records.{DataRecord, Layout, Follows, last_number, IsPr
 use Rattle.flk_dat.specs.SampleFields.{Set, Number, Stamp, Analog, Digital, IsIn, IsNumber, IsStamp, IsSample, IsThere}
 use Rattle.flk_dat.specs.AsciiRecords.{longest_line, field_total, column, IsRow, IsLine, RowFault, LineFault, IsBlank}
 use Rattle.flk_dat.specs.BinaryRecords.{record_size, number_of, stamp_of, value_of, bit_of, IsBinary, IsFirstMissing, WholeFault}
-use Rattle.flk_dat.specs.DataFile.{longest_tail, line_at, after_records, StandsInFront, IsRecord, FaultInFront, RecordFault, MayFollow, AreFirst, IsAccepted, IsFirstFault}
+use Rattle.flk_dat.specs.DataFile.{longest_tail, line_at, after_records, StandsInFront, IsRecord, FaultInFront, RecordFault, MayFollow, AreFirst, IsAccepted, IsFirstDataFault}
 use Rattle.flk_dat.specs.declared.kind.Kind.{Kind}
 use Rattle.flk_dat.specs.declared.kind.Kind.TheVariants as kinds
 use Rattle.flk_dat.proofs.RowLemmas.{AreIn, column_number, column_stamp, column_analog, column_digital}
@@ -140,58 +140,68 @@ blank_cases rest =
       ]
     ]
 
--- ---- BINARY records
+-- ---- binary records
 
 -- none of the first n channels that are selected has a missing value
-abbrev NoneMissing : List Bool → List ℕ → ℕ → Type 0
-NoneMissing selected bytes n = (j : ℕ) → j < n → get_or selected j false ≡ true → value_of bytes j ≢ missing_value Binary
+abbrev NoneMissing : Form → List Bool → List ℕ → ℕ → Type 0
+NoneMissing form selected bytes n = (j : ℕ) → j < n → get_or selected j false ≡ true → value_of form bytes j ≢ missing_value form
+
+same_pos : (n m : ℕ) → pos n ≡ pos m → n ≡ m
+same_pos n m e = cc
 
 same_negsuc : (n m : ℕ) → negsuc n ≡ negsuc m → n ≡ m
 same_negsuc n m e = cc
 
-is_missing : (z : ℤ) → (z ≡ negsuc 32767) ⊎ (z ≡ negsuc 32767 → ⊥)
-is_missing (pos n) = inr (λ e. cc)
-is_missing (negsuc n) =
-    elim (cases_Bool (eqb n 32767)) [
-      | inl same ↦ inl (ap (λ (m : ℕ). negsuc m) (eqb-true n 32767 same))
-      | inr other ↦ inr (λ e. true≢false (sym (eq-eqb n 32767 (same_negsuc n 32767 e)) ∙ other))
+same_or_not : (z y : ℤ) → (z ≡ y) ⊎ (z ≡ y → ⊥)
+same_or_not (pos n) (negsuc m) = inr (λ e. cc)
+same_or_not (negsuc n) (pos m) = inr (λ e. cc)
+same_or_not (pos n) (pos m) =
+    elim (cases_Bool (eqb n m)) [
+      | inl same ↦ inl (ap (λ (k : ℕ). pos k) (eqb-true n m same))
+      | inr other ↦ inr (λ e. true≢false (sym (eq-eqb n m (same_pos n m e)) ∙ other))
+    ]
+same_or_not (negsuc n) (negsuc m) =
+    elim (cases_Bool (eqb n m)) [
+      | inl same ↦ inl (ap (λ (k : ℕ). negsuc k) (eqb-true n m same))
+      | inr other ↦ inr (λ e. true≢false (sym (eq-eqb n m (same_negsuc n m e)) ∙ other))
     ]
 
-missing_here : (selected : List Bool) (bytes : List ℕ) (i : ℕ) → ((get_or selected i false ≡ true) × (value_of bytes i ≡ negsuc 32767)) ⊎ ((get_or selected i false ≡ true) → (value_of bytes i ≡ negsuc 32767) → ⊥)
-missing_here selected bytes i =
+missing_here : (form : Form) (selected : List Bool) (bytes : List ℕ) (i : ℕ) → ((get_or selected i false ≡ true) × (value_of form bytes i ≡ missing_value form))
+    ⊎ ((get_or selected i false ≡ true) → (value_of form bytes i ≡ missing_value form) → ⊥)
+missing_here form selected bytes i =
     elim (cases_Bool (get_or selected i false)) [
       | inr off ↦ inr (λ on e. true≢false (sym on ∙ off))
-      | inl on ↦ elim (is_missing (value_of bytes i)) [
+      | inl on ↦ elim (same_or_not (value_of form bytes i) (missing_value form)) [
         | inl e ↦ inl (on, e)
         | inr other ↦ inr (λ chosen e. other e)
       ]
     ]
 
-missing_cases : (selected : List Bool) (bytes : List ℕ) (n : ℕ) → n ≤ length selected → NoneMissing selected bytes n ⊎ ((i : ℕ) × IsFirstMissing selected bytes i)
-missing_cases selected bytes zero le = inl (λ j lt. absurd (omega (arith, lt)))
-missing_cases selected bytes (suc n) le =
-    elim (missing_cases selected bytes n (omega (arith, le))) [
+missing_cases : (form : Form) (selected : List Bool) (bytes : List ℕ) (n : ℕ) → n ≤ length selected → NoneMissing form selected bytes n ⊎ ((i : ℕ) × IsFirstMissing form selected bytes i)
+missing_cases form selected bytes zero le = inl (λ j lt. absurd (omega (arith, lt)))
+missing_cases form selected bytes (suc n) le =
+    elim (missing_cases form selected bytes n (omega (arith, le))) [
       | inr out ↦ inr out
-      | inl so ↦ elim (missing_here selected bytes n) [
+      | inl so ↦ elim (missing_here form selected bytes n) [
         | inl here ↦ inr (n, record { within = omega (arith, le); left = so; chosen = here.0; missing = here.1 })
         | inr none ↦ inl (λ j lt.
             elim (cases_lt j n) [
               | inl less ↦ so j less
-              | inr more ↦ let same : n ≡ j = omega (arith, lt, more) in subst (λ (k : ℕ). get_or selected k false ≡ true → value_of bytes k ≢ missing_value Binary) same none
+              | inr more ↦ let same : n ≡ j = omega (arith, lt, more) in subst (λ (k : ℕ). get_or selected k false ≡ true → value_of form bytes k ≢ missing_value form) same none
             ])
       ]
     ]
 
-abbrev BinaryCases : (selected : List Bool) → (digital : ℕ) → (before : Option ℕ) → List ℕ → Type 0
-BinaryCases selected digital before bytes = Good Binary selected before (IsBinary (length selected) digital bytes) ⊎ ((field : ℕ) × (kind : Kind) × WholeFault selected before bytes field kind)
+abbrev BinaryCases : Form → (selected : List Bool) → (digital : ℕ) → (before : Option ℕ) → List ℕ → Type 0
+BinaryCases form selected digital before bytes = Good form selected before (IsBinary form (length selected) digital bytes) ⊎ ((field : ℕ) × (kind : Kind) × WholeFault form selected before bytes field kind)
 
-binary_good : (selected : List Bool) (digital : ℕ) (before : Option ℕ) (bytes : List ℕ) → record_size (length selected) digital ≤ length bytes → Follows before (number_of bytes) → NoneMissing selected bytes (length selected)
-    → Good Binary selected before (IsBinary (length selected) digital bytes)
-binary_good selected digital before bytes whole follows none =
-    let P : ℕ → ℤ → Type 0 = λ i z. z ≡ value_of bytes i in
-    let values = fill P (length selected) (pos 0) (λ i lt. (value_of bytes i, refl)) in
-    let Q : ℕ → Bool → Type 0 = λ i b. b ≡ bit_of (length selected) bytes i in
-    let bits = fill Q digital false (λ i lt. (bit_of (length selected) bytes i, refl)) in
+binary_good : (form : Form) (selected : List Bool) (digital : ℕ) (before : Option ℕ) (bytes : List ℕ) → record_size form (length selected) digital ≤ length bytes → Follows before (number_of bytes) → NoneMissing form selected bytes (length selected)
+    → Good form selected before (IsBinary form (length selected) digital bytes)
+binary_good form selected digital before bytes whole follows none =
+    let P : ℕ → ℤ → Type 0 = λ i z. z ≡ value_of form bytes i in
+    let values = fill P (length selected) (pos 0) (λ i lt. (value_of form bytes i, refl)) in
+    let Q : ℕ → Bool → Type 0 = λ i b. b ≡ bit_of form (length selected) bytes i in
+    let bits = fill Q digital false (λ i lt. (bit_of form (length selected) bytes i, refl)) in
     record {
       value = record { number = number_of bytes; stamp = Some (stamp_of bytes); analog = values.items; digital = bits.items };
       is = record { whole = whole; number = refl; stamp = refl; analog_count = values.count; analog_values = values.each; digital_count = bits.count; digital_values = bits.each };
@@ -203,12 +213,12 @@ binary_good selected digital before bytes whole follows none =
           ];
     }
 
-binary_cases : (selected : List Bool) (digital : ℕ) (before : Option ℕ) (bytes : List ℕ) → record_size (length selected) digital ≤ length bytes → BinaryCases selected digital before bytes
-binary_cases selected digital before bytes whole =
+binary_cases : (form : Form) (selected : List Bool) (digital : ℕ) (before : Option ℕ) (bytes : List ℕ) → record_size form (length selected) digital ≤ length bytes → BinaryCases form selected digital before bytes
+binary_cases form selected digital before bytes whole =
     elim (follows_cases before (number_of bytes)) [
       | inr jump ↦ inr (1, kinds.Order, inl (jump, refl, refl))
-      | inl follows ↦ elim (missing_cases selected bytes (length selected) (omega arith)) [
-        | inl none ↦ inl (binary_good selected digital before bytes whole follows none)
+      | inl follows ↦ elim (missing_cases form selected bytes (length selected) (omega arith)) [
+        | inl none ↦ inl (binary_good form selected digital before bytes whole follows none)
         | inr out ↦ inr (out.0 + 3, kinds.Missing, inr (follows, out.0, refl, out.1, refl))
       ]
     ]
@@ -225,9 +235,9 @@ front_cases Ascii l k before rest =
       ]
     ]
 front_cases Binary l k before rest =
-    elim (cases_lt (length rest) (record_size (length l.selected) l.digital)) [
+    elim (cases_lt (length rest) (record_size Binary (length l.selected) l.digital)) [
       | inl few ↦ inr (0, kinds.Short, inl (few, refl, refl))
-      | inr whole ↦ elim (binary_cases l.selected l.digital before rest whole) [
+      | inr whole ↦ elim (binary_cases Binary l.selected l.digital before rest whole) [
         | inl good ↦ inl good
         | inr out ↦ inr (out.0, out.1, inr (whole, out.2))
       ]
@@ -257,7 +267,7 @@ record Reached (l : Layout) (bytes : List ℕ) (k : ℕ) : Type 0 where
   present : ArePresent l records
 
 abbrev HasFirstFault : Layout → List ℕ → Type 0
-HasFirstFault l bytes = (row : ℕ) × (field : ℕ) × (kind : Kind) × IsFirstFault l bytes row field kind
+HasFirstFault l bytes = (row : ℕ) × (field : ℕ) × (kind : Kind) × IsFirstDataFault l bytes row field kind
 
 reach : (l : Layout) (bytes : List ℕ) (k : ℕ) → k ≤ l.records → Reached l bytes k ⊎ HasFirstFault l bytes
 reach l bytes zero le = inl (record { records = []; count = refl; first = first_none l bytes; present = λ j lt. absurd (omega (arith, lt)) })
@@ -278,7 +288,7 @@ reach l bytes (suc k) le =
           ]
     ]
 
-pub accepted_or_first_fault : (l : Layout) (bytes : List ℕ) → ((rs : List DataRecord) × IsAccepted l bytes rs) ⊎ ((row : ℕ) × (field : ℕ) × (kind : Kind) × IsFirstFault l bytes row field kind)
+pub accepted_or_first_fault : (l : Layout) (bytes : List ℕ) → ((rs : List DataRecord) × IsAccepted l bytes rs) ⊎ ((row : ℕ) × (field : ℕ) × (kind : Kind) × IsFirstDataFault l bytes row field kind)
 accepted_or_first_fault l bytes =
     elim (reach l bytes l.records (omega arith)) [
       | inr out ↦ inr out

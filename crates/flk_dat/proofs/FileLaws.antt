@@ -3,7 +3,7 @@ use Rattle.std.proofs.Common.{◌≡◌, ℕ, ◌+◌, ◌<◌, List, length, re
 use Rattle.std.proofs.lemmas.Bool.{cases_lt}
 use Rattle.std.proofs.lemmas.List.{ext_get_or}
 use Rattle.flk_dat.specs.Records.{DataRecord, Layout, no_record, record_at, Follows, last_number, ArePresent}
-use Rattle.flk_dat.specs.DataFile.{after_records, RecordFault, AreFirst, IsFile, IsAccepted, IsFaultAfter, IsFirstFault}
+use Rattle.flk_dat.specs.DataFile.{after_records, RecordFault, AreFirst, IsFile, IsAccepted, IsFaultAfter, IsFirstDataFault}
 use Rattle.flk_dat.specs.declared.kind.Kind.{Kind}
 use Rattle.flk_dat.proofs.Sequences.{follows_at}
 use Rattle.flk_dat.proofs.RecordLaws.{record_once, record_or_fault, one_record_fault}
@@ -33,7 +33,7 @@ accepted_or_fault_after l bytes rs ss field kind a f =
       | inr all ↦ all.1.2 a.file.end
     ]
 
-pub accepted_or_fault : (l : Layout) (bytes : List ℕ) (rs : List DataRecord) (row field : ℕ) (kind : Kind) → IsAccepted l bytes rs → IsFirstFault l bytes row field kind → ⊥
+pub accepted_or_fault : (l : Layout) (bytes : List ℕ) (rs : List DataRecord) (row field : ℕ) (kind : Kind) → IsAccepted l bytes rs → IsFirstDataFault l bytes row field kind → ⊥
 accepted_or_fault l bytes rs row field kind a f = accepted_or_fault_after l bytes rs f.0 field kind a f.2
 
 -- with fewer records before it a fault would be where a good record is
@@ -70,7 +70,7 @@ one_fault_after l bytes rs ss field place kind again a b =
       ]
     ]
 
-pub one_first_fault : (l : Layout) (bytes : List ℕ) (row other field place : ℕ) (kind again : Kind) → IsFirstFault l bytes row field kind → IsFirstFault l bytes other place again → (row ≡ other) × (field ≡ place) × (kind ≡ again)
+pub one_first_fault : (l : Layout) (bytes : List ℕ) (row other field place : ℕ) (kind again : Kind) → IsFirstDataFault l bytes row field kind → IsFirstDataFault l bytes other place again → (row ≡ other) × (field ≡ place) × (kind ≡ again)
 one_first_fault l bytes row other field place kind again a b =
     let all = one_fault_after l bytes a.0 b.0 field place kind again a.2 b.2 in
     (a.1 ∙ ap (λ (x : List DataRecord). length x + 1) all.0 ∙ sym b.1, all.1, all.2)

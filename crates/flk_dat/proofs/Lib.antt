@@ -1,6 +1,7 @@
 pub mod SampleJudges
 pub mod Elements
 pub mod RowLemmas
+pub mod ColumnLemmas
 pub mod BlockLemmas
 pub mod Sequences
 pub mod LineEnds
@@ -23,3 +24,4 @@ pub mod WrittenText
 pub mod WrittenLines
 pub mod WrittenWords
 pub mod WrittenFiles
+pub mod WritableLaws

@@ -6,7 +6,7 @@ use Rattle.std.proofs.lemmas.List.{take_all, take-append-drop}
 use Rattle.flk_dat.specs.Records.{DataRecord, Rows, Layout}
 use Rattle.flk_dat.specs.DataFile.{IsFaultAfter}
 use Rattle.flk_dat.specs.Streams.{EndsRecord, added, Grows}
-use Rattle.flk_dat.specs.States.{layout, Stands, Fits}
+use Rattle.flk_dat.specs.States.{layout, Stands, FitsBlock}
 use Rattle.flk_dat.specs.Takings.{Keeps, Takes, Taking, TakesAll, Stops}
 use Rattle.flk_dat.specs.declared.reader.Reader.{Reader}
 use Rattle.flk_dat.specs.declared.kind.Fault.{Fault}
@@ -15,7 +15,7 @@ use Rattle.flk_dat.proofs.Sequences.{added_then, added_length, grows_then}
 pub keeps_then : (r s t : Reader) (a b c : Rows) → Keeps r s a b → Keeps s t b c → Keeps r t a c
 keeps_then r s t a b c p q = record { layout_same = q.layout_same ∙ p.layout_same; grows = grows_then a b c p.grows q.grows }
 
-pub fits_same : (r s : Reader) (a b : Rows) → layout s ≡ layout r → Grows a b → Fits r a → Fits s b
+pub fits_same : (r s : Reader) (a b : Rows) → layout s ≡ layout r → Grows a b → FitsBlock r a → FitsBlock s b
 fits_same r s a b same g f = record {
   analog = g.analog ∙ f.analog ∙ ap (λ (l : Layout). length l.selected) (sym same);
   digital = g.digital ∙ f.digital ∙ ap (λ (l : Layout). l.digital) (sym same);

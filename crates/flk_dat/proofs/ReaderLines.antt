@@ -36,11 +36,11 @@ pub end_ends : (r : Reader) (piece : List ℕ) (n : ℕ) → n ≡ end_of r piec
 end_ends r piece n e lt =
     subst (λ (k : ℕ). ends_line (is_last r) (get_or piece k 0) ≡ true) (sym e) (passes_at_first (ends_line (is_last r)) piece 0 (omega (arith, e, lt)))
 
-held_before : (old : Reader) (piece : List ℕ) (n : ℕ) → old.form ≡ Ascii → n ≡ end_of old piece → IsHeld old old.rest → IsUnended (is_last old) (old.rest ++ take n piece)
-held_before old piece n form e held = unended_more (is_last old) old.rest (take n piece) (ascii_part_is (layout old) old.given old.rest old.form form held).0 (piece_before (is_last old) piece n e)
+held_before : (old : Reader) (piece : List ℕ) (n : ℕ) → old.channels.form ≡ Ascii → n ≡ end_of old piece → IsHeld old old.rest → IsUnended (is_last old) (old.rest ++ take n piece)
+held_before old piece n form e held = unended_more (is_last old) old.rest (take n piece) (ascii_part_is (layout old) old.given old.rest old.channels.form form held).0 (piece_before (is_last old) piece n e)
 
 -- the line that the piece ends
-pub line_whole : (old : Reader) (piece : List ℕ) (n : ℕ) (r : DataRecord) → old.form ≡ Ascii → n ≡ end_of old piece → n < length piece
+pub line_whole : (old : Reader) (piece : List ℕ) (n : ℕ) (r : DataRecord) → old.channels.form ≡ Ascii → n ≡ end_of old piece → n < length piece
     → IsLine (length old.channels.selected.items) old.channels.digital (without_cr (old.rest ++ take n piece)) r → Follows old.before r.number → IsPresent Ascii old.channels.selected.items r
     → Whole old piece (n + 1) (mark_of (get_or piece n 0)) r
 line_whole old piece n r form e lt line follows present =
@@ -51,18 +51,18 @@ line_whole old piece n r form e lt line follows present =
       some = omega arith;
       within = omega (arith, lt);
       here = λ held rest. subst (λ (x : List ℕ). IsRecord (layout old) old.given (old.rest ++ (x ++ rest)) r) (sym more) (line_here (layout old) old.given old.rest (take n piece) rest c r form (held_before old piece n form e held) end line);
-      after = λ held rest. subst (λ (x : List ℕ). after_front old.form (layout old) old.given (old.rest ++ (x ++ rest)) ≡ mark_of c ++ rest) (sym more)
-          (line_after (layout old) old.given old.rest (take n piece) rest c old.form form (held_before old piece n form e held) end);
+      after = λ held rest. subst (λ (x : List ℕ). after_front old.channels.form (layout old) old.given (old.rest ++ (x ++ rest)) ≡ mark_of c ++ rest) (sym more)
+          (line_after (layout old) old.given old.rest (take n piece) rest c old.channels.form form (held_before old piece n form e held) end);
       follows = follows;
       present = subst (λ (f : Form). IsPresent f old.channels.selected.items r) (sym form) present;
       front = take n piece;
       byte = c;
       last = more;
-      part = λ held. ascii_part (layout old) old.given (old.rest ++ take n piece) old.form form (held_before old piece n form e held) (good_may_begin (old.rest ++ take n piece) line.short);
+      part = λ held. ascii_part (layout old) old.given (old.rest ++ take n piece) old.channels.form form (held_before old piece n form e held) (good_may_begin (old.rest ++ take n piece) line.short);
     }
 
 -- the fault of the line that the piece ends
-pub line_stops : (old : Reader) (piece : List ℕ) (n field : ℕ) (kind : Kind) → old.form ≡ Ascii → n ≡ end_of old piece → n < length piece
+pub line_stops : (old : Reader) (piece : List ℕ) (n field : ℕ) (kind : Kind) → old.channels.form ≡ Ascii → n ≡ end_of old piece → n < length piece
     → LineFault old.channels.selected.items old.channels.digital old.before (without_cr (old.rest ++ take n piece)) field kind
     → IsHeld old old.rest → (more : List ℕ) → RecordFault (layout old) old.given old.before (old.rest ++ (piece ++ more)) field kind
 line_stops old piece n field kind form e lt fault held more =
@@ -75,19 +75,19 @@ line_stops old piece n field kind form e lt fault held more =
     (line_fault_here (layout old) old.given old.before old.rest (take n piece) (back ++ more) c field kind form (held_before old piece n form e held) (end_ends old piece n e lt) fault)
 
 -- a piece in which no line ends
-pub line_held : (old : Reader) (piece : List ℕ) → old.form ≡ Ascii → length piece ≡ end_of old piece → MayBegin (old.rest ++ piece) → IsHeld old old.rest → IsHeld old (old.rest ++ piece)
+pub line_held : (old : Reader) (piece : List ℕ) → old.channels.form ≡ Ascii → length piece ≡ end_of old piece → MayBegin (old.rest ++ piece) → IsHeld old old.rest → IsHeld old (old.rest ++ piece)
 line_held old piece form e begin held =
-    ascii_part (layout old) old.given (old.rest ++ piece) old.form form (unended_more (is_last old) old.rest piece (ascii_part_is (layout old) old.given old.rest old.form form held).0 (piece_unended (is_last old) piece e)) begin
+    ascii_part (layout old) old.given (old.rest ++ piece) old.channels.form form (unended_more (is_last old) old.rest piece (ascii_part_is (layout old) old.given old.rest old.channels.form form held).0 (piece_unended (is_last old) piece e)) begin
 
-pub line_too_long : (old : Reader) (piece : List ℕ) (field : ℕ) (kind : Kind) → old.form ≡ Ascii → length piece ≡ end_of old piece → (MayBegin (old.rest ++ piece) → ⊥) → field ≡ 0 → kind ≡ kinds.Length
+pub line_too_long : (old : Reader) (piece : List ℕ) (field : ℕ) (kind : Kind) → old.channels.form ≡ Ascii → length piece ≡ end_of old piece → (MayBegin (old.rest ++ piece) → ⊥) → field ≡ 0 → kind ≡ kinds.Length
     → IsHeld old old.rest → (more : List ℕ) → RecordFault (layout old) old.given old.before (old.rest ++ (piece ++ more)) field kind
 line_too_long old piece field kind form e long place is held more =
-    let none = unended_more (is_last old) old.rest piece (ascii_part_is (layout old) old.given old.rest old.form form held).0 (piece_unended (is_last old) piece e) in
+    let none = unended_more (is_last old) old.rest piece (ascii_part_is (layout old) old.given old.rest old.channels.form form held).0 (piece_unended (is_last old) piece e) in
     subst (λ (x : List ℕ). RecordFault (layout old) old.given old.before x field kind) (append_assoc old.rest piece more)
     (long_here (layout old) old.given old.before (old.rest ++ piece) more field kind form none long place is)
 
 -- the reader when the line's record is given
-pub line_given : (old mid new : Reader) (number : ℕ) (tail : Tail) (c : ℕ) → old.form ≡ Ascii → layout mid ≡ layout old → mid.fault ≡ old.fault → mid.given ≡ old.given → mid.rest ≡ [] → Gives mid new number tail
+pub line_given : (old mid new : Reader) (number : ℕ) (tail : Tail) (c : ℕ) → old.channels.form ≡ Ascii → layout mid ≡ layout old → mid.fault ≡ old.fault → mid.given ≡ old.given → mid.rest ≡ [] → Gives mid new number tail
     → tail ≡ tail_after c → ends_line (is_last old) c ≡ true → Given old new number (mark_of c)
 line_given old mid new number tail c form same fault count none g is end =
     let t = mark_tail (is_last old) c end in

@@ -150,10 +150,10 @@ line_or_fault : (selected : List Bool) (digital : ℕ) (before : Option ℕ) (li
 line_or_fault selected digital before line r field kind is follows present (inl long) = omega (arith, is.short, long.0)
 line_or_fault selected digital before line r field kind is follows present (inr fault) = row_or_fault selected digital before (fields line) r field kind is.row follows present fault.1
 
--- ---- BINARY records
+-- ---- binary records
 
-binary_once : (analog digital : ℕ) (bytes : List ℕ) (r s : DataRecord) → IsBinary analog digital bytes r → IsBinary analog digital bytes s → r ≡ s
-binary_once analog digital bytes r s a b =
+binary_once : (form : Form) (analog digital : ℕ) (bytes : List ℕ) (r s : DataRecord) → IsBinary form analog digital bytes r → IsBinary form analog digital bytes s → r ≡ s
+binary_once form analog digital bytes r s a b =
     let number : r.number ≡ s.number = a.number ∙ sym b.number in
     let stamp : r.stamp ≡ s.stamp = a.stamp ∙ sym b.stamp in
     let values : r.analog ≡ s.analog = ext_get_or (pos 0) r.analog s.analog (a.analog_count ∙ sym b.analog_count)
@@ -166,15 +166,15 @@ binary_once analog digital bytes r s a b =
     a.digital_values i below ∙ sym (b.digital_values i below)) in
     rw (number, stamp, values, bits) refl
 
-whole_or_fault : (selected : List Bool) (digital : ℕ) (before : Option ℕ) (bytes : List ℕ) (r : DataRecord) (field : ℕ) (kind : Kind) → IsBinary (length selected) digital bytes r → Follows before r.number → IsPresent Binary selected r
-    → WholeFault selected before bytes field kind → ⊥
-whole_or_fault selected digital before bytes r field kind b follows present (inl order) = order.0 (subst (Follows before) b.number follows)
-whole_or_fault selected digital before bytes r field kind b follows present (inr missing) =
+whole_or_fault : (form : Form) (selected : List Bool) (digital : ℕ) (before : Option ℕ) (bytes : List ℕ) (r : DataRecord) (field : ℕ) (kind : Kind) → IsBinary form (length selected) digital bytes r → Follows before r.number → IsPresent form selected r
+    → WholeFault form selected before bytes field kind → ⊥
+whole_or_fault form selected digital before bytes r field kind b follows present (inl order) = order.0 (subst (Follows before) b.number follows)
+whole_or_fault form selected digital before bytes r field kind b follows present (inr missing) =
     let m = missing.3 in
     present missing.1 m.chosen (b.analog_values missing.1 m.within ∙ m.missing)
 
-one_missing : (selected : List Bool) (bytes : List ℕ) (i j : ℕ) → IsFirstMissing selected bytes i → IsFirstMissing selected bytes j → i ≡ j
-one_missing selected bytes i j a b =
+one_missing : (form : Form) (selected : List Bool) (bytes : List ℕ) (i j : ℕ) → IsFirstMissing form selected bytes i → IsFirstMissing form selected bytes j → i ≡ j
+one_missing form selected bytes i j a b =
     elim (cases_lt i j) [
       | inl less ↦ absurd (b.left i less a.chosen a.missing)
       | inr more ↦ elim (cases_lt j i) [
@@ -183,17 +183,17 @@ one_missing selected bytes i j a b =
       ]
     ]
 
-one_whole_fault : (selected : List Bool) (before : Option ℕ) (bytes : List ℕ) (p q : ℕ) (k j : Kind) → WholeFault selected before bytes p k → WholeFault selected before bytes q j → (p ≡ q) × (k ≡ j)
-one_whole_fault selected before bytes p q k j (inl a) (inl b) = (a.1 ∙ sym b.1, a.2 ∙ sym b.2)
-one_whole_fault selected before bytes p q k j (inl a) (inr b) = absurd (a.0 b.0)
-one_whole_fault selected before bytes p q k j (inr a) (inl b) = absurd (b.0 a.0)
-one_whole_fault selected before bytes p q k j (inr a) (inr b) = (a.2 ∙ ap (λ (n : ℕ). n + 3) (one_missing selected bytes a.1 b.1 a.3 b.3) ∙ sym b.2, a.4 ∙ sym b.4)
+one_whole_fault : (form : Form) (selected : List Bool) (before : Option ℕ) (bytes : List ℕ) (p q : ℕ) (k j : Kind) → WholeFault form selected before bytes p k → WholeFault form selected before bytes q j → (p ≡ q) × (k ≡ j)
+one_whole_fault form selected before bytes p q k j (inl a) (inl b) = (a.1 ∙ sym b.1, a.2 ∙ sym b.2)
+one_whole_fault form selected before bytes p q k j (inl a) (inr b) = absurd (a.0 b.0)
+one_whole_fault form selected before bytes p q k j (inr a) (inl b) = absurd (b.0 a.0)
+one_whole_fault form selected before bytes p q k j (inr a) (inr b) = (a.2 ∙ ap (λ (n : ℕ). n + 3) (one_missing form selected bytes a.1 b.1 a.3 b.3) ∙ sym b.2, a.4 ∙ sym b.4)
 
-one_binary_fault : (selected : List Bool) (digital : ℕ) (before : Option ℕ) (bytes : List ℕ) (p q : ℕ) (k j : Kind) → BinaryFault selected digital before bytes p k → BinaryFault selected digital before bytes q j → (p ≡ q) × (k ≡ j)
-one_binary_fault selected digital before bytes p q k j (inl a) (inl b) = (a.1 ∙ sym b.1, a.2 ∙ sym b.2)
-one_binary_fault selected digital before bytes p q k j (inl a) (inr b) = absurd (omega (arith, a.0, b.0))
-one_binary_fault selected digital before bytes p q k j (inr a) (inl b) = absurd (omega (arith, a.0, b.0))
-one_binary_fault selected digital before bytes p q k j (inr a) (inr b) = one_whole_fault selected before bytes p q k j a.1 b.1
+one_binary_fault : (form : Form) (selected : List Bool) (digital : ℕ) (before : Option ℕ) (bytes : List ℕ) (p q : ℕ) (k j : Kind) → BinaryFault form selected digital before bytes p k → BinaryFault form selected digital before bytes q j → (p ≡ q) × (k ≡ j)
+one_binary_fault form selected digital before bytes p q k j (inl a) (inl b) = (a.1 ∙ sym b.1, a.2 ∙ sym b.2)
+one_binary_fault form selected digital before bytes p q k j (inl a) (inr b) = absurd (omega (arith, a.0, b.0))
+one_binary_fault form selected digital before bytes p q k j (inr a) (inl b) = absurd (omega (arith, a.0, b.0))
+one_binary_fault form selected digital before bytes p q k j (inr a) (inr b) = one_whole_fault form selected before bytes p q k j a.1 b.1
 
 -- ---- both forms
 
@@ -229,7 +229,7 @@ blank_is_no_line l k rest r blank line =
 
 front_once : (form : Form) (l : Layout) (k : ℕ) (rest : List ℕ) (r s : DataRecord) → StandsInFront form l k rest r → StandsInFront form l k rest s → r ≡ s
 front_once Ascii l k rest r s a b = row_once (length l.selected) l.digital (fields (line_at l.records k rest)) r s a.row b.row
-front_once Binary l k rest r s a b = binary_once (length l.selected) l.digital rest r s a b
+front_once Binary l k rest r s a b = binary_once Binary (length l.selected) l.digital rest r s a b
 
 pub record_once : (l : Layout) (k : ℕ) (rest : List ℕ) (r s : DataRecord) → IsRecord l k rest r → IsRecord l k rest s → r ≡ s
 unfolding IsRecord
@@ -240,7 +240,7 @@ front_or_fault : (form : Form) (l : Layout) (k : ℕ) (before : Option ℕ) (res
 front_or_fault Ascii l k before rest r field kind is follows present (inl blank) = blank_is_no_line l k rest r blank.0 is
 front_or_fault Ascii l k before rest r field kind is follows present (inr fault) = line_or_fault l.selected l.digital before (line_at l.records k rest) r field kind is follows present fault.1
 front_or_fault Binary l k before rest r field kind is follows present (inl short) = omega (arith, is.whole, short.0)
-front_or_fault Binary l k before rest r field kind is follows present (inr fault) = whole_or_fault l.selected l.digital before rest r field kind is follows present fault.1
+front_or_fault Binary l k before rest r field kind is follows present (inr fault) = whole_or_fault Binary l.selected l.digital before rest r field kind is follows present fault.1
 
 pub record_or_fault : (l : Layout) (k : ℕ) (before : Option ℕ) (rest : List ℕ) (r : DataRecord) (field : ℕ) (kind : Kind) → IsRecord l k rest r → Follows before r.number → IsPresent l.form l.selected r
     → RecordFault l k before rest field kind → ⊥
@@ -252,7 +252,7 @@ one_front_fault Ascii l k before rest p q i j (inl a) (inl b) = (a.1 ∙ sym b.1
 one_front_fault Ascii l k before rest p q i j (inl a) (inr b) = absurd (b.0 a.0)
 one_front_fault Ascii l k before rest p q i j (inr a) (inl b) = absurd (a.0 b.0)
 one_front_fault Ascii l k before rest p q i j (inr a) (inr b) = one_line_fault l.selected l.digital before (line_at l.records k rest) p q i j a.1 b.1
-one_front_fault Binary l k before rest p q i j a b = one_binary_fault l.selected l.digital before rest p q i j a b
+one_front_fault Binary l k before rest p q i j a b = one_binary_fault Binary l.selected l.digital before rest p q i j a b
 
 pub one_record_fault : (l : Layout) (k : ℕ) (before : Option ℕ) (rest : List ℕ) (p q : ℕ) (i j : Kind) → RecordFault l k before rest p i → RecordFault l k before rest q j → (p ≡ q) × (i ≡ j)
 unfolding RecordFault

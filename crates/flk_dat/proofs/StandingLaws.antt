@@ -1,5 +1,5 @@
 -- Bytes that a reader has taken without a fault have none that is sure.
-use Rattle.std.proofs.Common.{◌≡◌, ℕ, zero, suc, ◌+◌, ◌<◌, ◌≤◌, Bool, true, false, eqb, List, [], ◌++◌, length, replicate, Option, refl, sym, ap, subst, ◌∙◌, arith, inl, inr, length-append, append-nil}
+use Rattle.std.proofs.Common.{◌≡◌, ◌≢◌, ℕ, zero, suc, ◌+◌, ◌<◌, ◌≤◌, Bool, true, false, eqb, List, [], ◌++◌, length, replicate, Option, refl, sym, ap, subst, ◌∙◌, arith, inl, inr, length-append, append-nil}
 use Rattle.std.specs.List.{list_all}
 use Rattle.std.specs.Prelude.{not}
 use Rattle.std.proofs.lemmas.Bool.{cases_lt, and_from}
@@ -11,7 +11,7 @@ use Rattle.flk_dat.specs.Records.{DataRecord, Layout, last_number}
 use Rattle.flk_dat.specs.SampleFields.{Set, Number, Stamp, Analog, Digital, Refuses, NoWhole, NoSample}
 use Rattle.flk_dat.specs.AsciiRecords.{longest_line, LineFault, RowFault}
 use Rattle.flk_dat.specs.BinaryRecords.{record_size, WholeFault}
-use Rattle.flk_dat.specs.DataFile.{line_at, after_records, FaultInFront, RecordFault, AreFirst, IsFaultAfter, IsFirstFault}
+use Rattle.flk_dat.specs.DataFile.{line_at, after_records, FaultInFront, RecordFault, AreFirst, IsFaultAfter, IsFirstDataFault}
 use Rattle.flk_dat.specs.Streams.{ends_line, IsUnended, MayBegin, IsPartOf, HasGiven}
 use Rattle.flk_dat.specs.States.{layout, Stands}
 use Rattle.flk_dat.specs.declared.reader.Reader.{Reader}
@@ -22,7 +22,7 @@ use Rattle.flk_dat.proofs.StreamLemmas.{fault_due, accepted_at_end}
 use Rattle.flk_dat.proofs.StateLemmas.{rest_due}
 use Rattle.flk_dat.proofs.TakingLemmas.{at_end}
 use Rattle.flk_dat.proofs.AsciiSteps.{ascii_part_is, unended_more, long_here}
-use Rattle.flk_dat.proofs.BinarySteps.{binary_short}
+use Rattle.flk_dat.proofs.BinarySteps.{binary_short, part_binary, text_or_bytes}
 use Rattle.flk_dat.proofs.FileLaws.{lists_once, accepted_or_fault, one_first_fault}
 
 -- ---- kinds
@@ -54,9 +54,9 @@ line_kind : (selected : List Bool) (digital : ℕ) (before : Option ℕ) (line :
 line_kind selected digital before line field kind short (inl a) e = omega (arith, short, a.0)
 line_kind selected digital before line field kind short (inr a) e = row_kind selected digital before (fields line) field kind a.1 e
 
-whole_kind : (selected : List Bool) (before : Option ℕ) (bytes : List ℕ) (field : ℕ) (kind : Kind) → WholeFault selected before bytes field kind → kind ≡ kinds.Short → ⊥
-whole_kind selected before bytes field kind (inl a) e = cc
-whole_kind selected before bytes field kind (inr a) e = cc
+whole_kind : (form : Form) (selected : List Bool) (before : Option ℕ) (bytes : List ℕ) (field : ℕ) (kind : Kind) → WholeFault form selected before bytes field kind → kind ≡ kinds.Short → ⊥
+whole_kind form selected before bytes field kind (inl a) e = cc
+whole_kind form selected before bytes field kind (inr a) e = cc
 
 -- less than a line isn't too long
 part_not_long : (form : Form) (l : Layout) (k : ℕ) (before : Option ℕ) (rest : List ℕ) (field : ℕ) (kind : Kind) → form ≡ Ascii → IsUnended (eqb (k + 1) l.records) rest → MayBegin rest
@@ -67,17 +67,17 @@ part_not_long Ascii l k before rest field kind form none begin (inr fault) e =
     line_kind l.selected l.digital before (line_at l.records k rest) field kind (subst (λ (x : List ℕ). length x ≤ longest_line) (sym (line_unended l.records k rest none)) (short_line rest begin)) fault.1 e
 
 -- a record that is whole isn't short
-whole_not_short : (form : Form) (l : Layout) (k : ℕ) (before : Option ℕ) (rest : List ℕ) (field : ℕ) (kind : Kind) → form ≡ Binary → record_size (length l.selected) l.digital ≤ length rest
+whole_not_short : (form : Form) (l : Layout) (k : ℕ) (before : Option ℕ) (rest : List ℕ) (field : ℕ) (kind : Kind) → form ≢ Ascii → record_size form (length l.selected) l.digital ≤ length rest
     → FaultInFront form l k before rest field kind → kind ≡ kinds.Short → ⊥
-whole_not_short Ascii l k before rest field kind form room fault e = cc
-whole_not_short Binary l k before rest field kind form room (inl short) e = omega (arith, short.0, room)
-whole_not_short Binary l k before rest field kind form room (inr fault) e = whole_kind l.selected before rest field kind fault.1 e
+whole_not_short Ascii l k before rest field kind other room fault e = absurd (other refl)
+whole_not_short Binary l k before rest field kind other room (inl short) e = omega (arith, short.0, room)
+whole_not_short Binary l k before rest field kind other room (inr fault) e = whole_kind Binary l.selected before rest field kind fault.1 e
 
 -- ---- the fault of the record that is due
 
 -- a fault at the record behind those given is one of what is left
 fault_of_rest : (l : Layout) (bytes : List ℕ) (given : List DataRecord) (rest : List ℕ) (row field : ℕ) (kind : Kind) → AreFirst l bytes given → length given < l.records → after_records l (length given) bytes ≡ rest
-    → row ≡ length given + 1 → IsFirstFault l bytes row field kind → FaultInFront l.form l (length given) (last_number given) rest field kind
+    → row ≡ length given + 1 → IsFirstDataFault l bytes row field kind → FaultInFront l.form l (length given) (last_number given) rest field kind
 unfolding RecordFault
 fault_of_rest l bytes given rest row field kind first lt left at fault =
     let rs = fault.0 in
@@ -103,7 +103,7 @@ not_begun bytes many (inr cr) = omega (arith, many, cr.0)
 
 -- in an ASCII file the line may become too long, and need not
 no_sure_ascii : (l : Layout) (taken : List ℕ) (given : List DataRecord) (rest : List ℕ) (n row field : ℕ) (kind : Kind) → l.form ≡ Ascii → length given < l.records → HasGiven l taken given rest
-    → IsPartOf l.form l (length given) rest → longest_line + 2 ≤ n → ((more : List ℕ) → IsFirstFault l (taken ++ more) row field kind) → ⊥
+    → IsPartOf l.form l (length given) rest → longest_line + 2 ≤ n → ((more : List ℕ) → IsFirstDataFault l (taken ++ more) row field kind) → ⊥
 no_sure_ascii l taken given rest n row field kind form lt has part many sure =
     let k = length given in
     let long = replicate n 120 in
@@ -114,40 +114,40 @@ no_sure_ascii l taken given rest n row field kind form lt has part many sure =
     let too_long : MayBegin (rest ++ long) → ⊥ = not_begun (rest ++ long) (omega (arith, size, many)) in
     let fault : RecordFault l k (last_number given) (rest ++ long) 0 kinds.Length =
     subst (λ (x : List ℕ). RecordFault l k (last_number given) x 0 kinds.Length) (append-nil (rest ++ long)) (long_here l k (last_number given) (rest ++ long) [] 0 kinds.Length form none too_long refl refl) in
-    let here : IsFirstFault l (taken ++ long) (k + 1) 0 kinds.Length = (given, refl, fault_due l taken given rest long 0 kinds.Length has lt fault) in
+    let here : IsFirstDataFault l (taken ++ long) (k + 1) 0 kinds.Length = (given, refl, fault_due l taken given rest long 0 kinds.Length has lt fault) in
     let one = one_first_fault l (taken ++ long) row (k + 1) field 0 kind kinds.Length (sure long) here in
     let left : after_records l k (taken ++ []) ≡ rest = has.left [] ∙ append-nil rest in
     part_not_long l.form l k (last_number given) rest field kind form is.0 is.1 (fault_of_rest l (taken ++ []) given rest row field kind (has.first []) lt left one.0 (sure [])) one.2
 
--- in a BINARY file the record may stay short, and need not
-no_sure_binary : (l : Layout) (taken : List ℕ) (given : List DataRecord) (rest : List ℕ) (n row field : ℕ) (kind : Kind) → l.form ≡ Binary → length given < l.records → HasGiven l taken given rest
-    → IsPartOf l.form l (length given) rest → record_size (length l.selected) l.digital ≤ n → ((more : List ℕ) → IsFirstFault l (taken ++ more) row field kind) → ⊥
-no_sure_binary l taken given rest n row field kind form lt has part many sure =
+-- in a binary file the record may stay short, and need not
+no_sure_binary : (l : Layout) (taken : List ℕ) (given : List DataRecord) (rest : List ℕ) (n row field : ℕ) (kind : Kind) → l.form ≢ Ascii → length given < l.records → HasGiven l taken given rest
+    → IsPartOf l.form l (length given) rest → record_size l.form (length l.selected) l.digital ≤ n → ((more : List ℕ) → IsFirstDataFault l (taken ++ more) row field kind) → ⊥
+no_sure_binary l taken given rest n row field kind other lt has part many sure =
     let k = length given in
     let more = replicate n 0 in
-    let few : length rest < record_size (length l.selected) l.digital = subst (λ (f : Form). IsPartOf f l k rest) form part in
+    let few : length rest < record_size l.form (length l.selected) l.digital = part_binary l.form l k rest other part in
     let size : length (rest ++ more) ≡ length rest + n = length-append rest more ∙ ap (λ (m : ℕ). length rest + m) (length-replicate n 0) in
     let short : RecordFault l k (last_number given) (rest ++ []) 0 kinds.Short =
-    subst (λ (x : List ℕ). RecordFault l k (last_number given) x 0 kinds.Short) (sym (append-nil rest)) (binary_short l k (last_number given) rest form few) in
-    let here : IsFirstFault l (taken ++ []) (k + 1) 0 kinds.Short = (given, refl, fault_due l taken given rest [] 0 kinds.Short has lt short) in
+    subst (λ (x : List ℕ). RecordFault l k (last_number given) x 0 kinds.Short) (sym (append-nil rest)) (binary_short l k (last_number given) rest other few) in
+    let here : IsFirstDataFault l (taken ++ []) (k + 1) 0 kinds.Short = (given, refl, fault_due l taken given rest [] 0 kinds.Short has lt short) in
     let one = one_first_fault l (taken ++ []) row (k + 1) field 0 kind kinds.Short (sure []) here in
-    let room : record_size (length l.selected) l.digital ≤ length (rest ++ more) = omega (arith, size, many) in
-    whole_not_short l.form l k (last_number given) (rest ++ more) field kind form room (fault_of_rest l (taken ++ more) given (rest ++ more) row field kind (has.first more) lt (has.left more) one.0 (sure more)) one.2
+    let room : record_size l.form (length l.selected) l.digital ≤ length (rest ++ more) = omega (arith, size, many) in
+    whole_not_short l.form l k (last_number given) (rest ++ more) field kind other room (fault_of_rest l (taken ++ more) given (rest ++ more) row field kind (has.first more) lt (has.left more) one.0 (sure more)) one.2
 
 no_sure_due : (form : Form) (l : Layout) (taken : List ℕ) (given : List DataRecord) (rest : List ℕ) (row field : ℕ) (kind : Kind) → l.form ≡ form → length given < l.records → HasGiven l taken given rest
-    → IsPartOf l.form l (length given) rest → ((more : List ℕ) → IsFirstFault l (taken ++ more) row field kind) → ⊥
+    → IsPartOf l.form l (length given) rest → ((more : List ℕ) → IsFirstDataFault l (taken ++ more) row field kind) → ⊥
 no_sure_due Ascii l taken given rest row field kind form lt has part sure = no_sure_ascii l taken given rest (longest_line + 2) row field kind form lt has part (omega arith) sure
-no_sure_due Binary l taken given rest row field kind form lt has part sure = no_sure_binary l taken given rest (record_size (length l.selected) l.digital) row field kind form lt has part (omega arith) sure
+no_sure_due Binary l taken given rest row field kind form lt has part sure = no_sure_binary l taken given rest (record_size l.form (length l.selected) l.digital) row field kind (λ e. text_or_bytes (sym form ∙ e)) lt has part (omega arith) sure
 
-pub no_sure_fault : (r : Reader) (taken : List ℕ) (given : List DataRecord) (row field : ℕ) (kind : Kind) → Stands r taken given → ((more : List ℕ) → IsFirstFault (layout r) (taken ++ more) row field kind) → ⊥
+pub no_sure_fault : (r : Reader) (taken : List ℕ) (given : List DataRecord) (row field : ℕ) (kind : Kind) → Stands r taken given → ((more : List ℕ) → IsFirstDataFault (layout r) (taken ++ more) row field kind) → ⊥
 no_sure_fault r taken given row field kind s sure =
     elim (cases_lt r.given r.records) [
       | inl due ↦
           let h = rest_due r taken given s due in
-          no_sure_due r.form (layout r) taken given r.rest row field kind refl (omega (arith, due, s.holds.count)) h.0 (subst (λ (k : ℕ). IsPartOf r.form (layout r) k r.rest) s.holds.count h.1) sure
+          no_sure_due r.channels.form (layout r) taken given r.rest row field kind refl (omega (arith, due, s.holds.count)) h.0 (subst (λ (k : ℕ). IsPartOf r.channels.form (layout r) k r.rest) s.holds.count h.1) sure
       | inr all ↦
           let whole : r.given ≡ r.records = omega (arith, all, r.within) in
           let e = at_end r taken given whole s in
           let accepted = accepted_at_end (layout r) taken given e.rest e.has e.all e.follows in
-          accepted_or_fault (layout r) taken given row field kind accepted (subst (λ (x : List ℕ). IsFirstFault (layout r) x row field kind) (append-nil taken) (sure []))
+          accepted_or_fault (layout r) taken given row field kind accepted (subst (λ (x : List ℕ). IsFirstDataFault (layout r) x row field kind) (append-nil taken) (sure []))
     ]

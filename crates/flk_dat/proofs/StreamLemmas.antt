@@ -19,7 +19,7 @@ use Rattle.flk_dat.proofs.LineEnds.{after_by}
 -- what follows the record at the front, which is the k-th
 abbrev pub after_front : Form → Layout → ℕ → List ℕ → List ℕ
 after_front Ascii l k rest = after_by (eqb (k + 1) l.records) rest
-after_front Binary l k rest = drop (record_size (length l.selected) l.digital) rest
+after_front Binary l k rest = drop (record_size Binary (length l.selected) l.digital) rest
 
 rows_from : (records k : ℕ) (bytes : List ℕ) → k < records → after_rows records k bytes ≡ after_lines k bytes
 rows_from records k bytes lt =
@@ -39,7 +39,7 @@ after_rows_next records k bytes lt =
 after_of_next : (form : Form) (l : Layout) (k : ℕ) (bytes : List ℕ) → k < l.records → after_of form l (k + 1) bytes ≡ after_front form l k (after_of form l k bytes)
 after_of_next Ascii l k bytes lt = after_rows_next l.records k bytes lt
 after_of_next Binary l k bytes lt =
-    let size = record_size (length l.selected) l.digital in
+    let size = record_size Binary (length l.selected) l.digital in
     let sum : size * (k + 1) ≡ size * k + size = omega arith in
     ap (λ (n : ℕ). drop n bytes) sum ∙ sym (drop-drop size (size * k) bytes)
 
@@ -50,7 +50,7 @@ after_next l k bytes lt = after_of_next l.form l k bytes lt
 after_of_none : (form : Form) (l : Layout) (bytes : List ℕ) → 0 < l.records → after_of form l 0 bytes ≡ bytes
 after_of_none Ascii l bytes some = rows_from l.records 0 bytes some
 after_of_none Binary l bytes some =
-    let none : record_size (length l.selected) l.digital * 0 ≡ 0 = omega arith in
+    let none : record_size Binary (length l.selected) l.digital * 0 ≡ 0 = omega arith in
     ap (λ (n : ℕ). drop n bytes) none
 
 pub after_none : (l : Layout) (bytes : List ℕ) → 0 < l.records → after_records l 0 bytes ≡ bytes

@@ -39,14 +39,15 @@ line_length true rest =
     let at = position_or_len ends_last_line rest in
     omega (arith, without_cr_length (take at rest), without_lf_length (drop at rest), length-take at rest, length-drop at rest)
 
-narrow_size : (l : Layout) → IsNarrow l → record_size (length l.selected) l.digital ≤ 552
-narrow_size l narrow = omega (arith, narrow.analog, narrow.digital)
+narrow_size : (form : Form) (l : Layout) → IsNarrow l → record_size form (length l.selected) l.digital ≤ 1064
+narrow_size Ascii l narrow = omega (arith, narrow.digital)
+narrow_size Binary l narrow = omega (arith, narrow.analog, narrow.digital)
 
 front_length : (form : Form) (l : Layout) (k : ℕ) (rest : List ℕ) (r : DataRecord) → IsNarrow l → StandsInFront form l k rest r → length rest ≤ length (after_front form l k rest) + (longest_line + 2)
 front_length Ascii l k rest r narrow is =
     let line = ap (λ (x : List ℕ). length x) (line_is l.records k rest) in
     omega (arith, is.short, line, line_length (eqb (k + 1) l.records) rest)
-front_length Binary l k rest r narrow is = omega (arith, narrow_size l narrow, length-drop (record_size (length l.selected) l.digital) rest)
+front_length Binary l k rest r narrow is = omega (arith, narrow_size Binary l narrow, length-drop (record_size Binary (length l.selected) l.digital) rest)
 
 record_length : (l : Layout) (k : ℕ) (bytes : List ℕ) (r : DataRecord) → IsNarrow l → k < l.records → IsRecord l k (after_records l k bytes) r
     → length (after_records l k bytes) ≤ length (after_records l (k + 1) bytes) + (longest_line + 2)
@@ -73,7 +74,7 @@ begin_length bytes (inr cr) = omega (arith, cr.0)
 
 part_length : (form : Form) (l : Layout) (k : ℕ) (rest : List ℕ) → IsNarrow l → IsPartOf form l k rest → length rest ≤ longest_tail
 part_length Ascii l k rest narrow part = omega (arith, begin_length rest part.1)
-part_length Binary l k rest narrow part = omega (arith, part, narrow_size l narrow)
+part_length Binary l k rest narrow part = omega (arith, part, narrow_size Binary l narrow)
 
 end_length : (form : Form) (rest : List ℕ) → MayFollow form rest → length rest ≤ longest_tail
 end_length Ascii rest end = end.1
@@ -83,8 +84,8 @@ rest_length : (r : Reader) (taken : List ℕ) (given : List DataRecord) (s : Sta
 rest_length r taken given s narrow =
     let within : r.given ≤ r.records = r.within in
     elim (cases_lt (length given) r.records) [
-      | inl due ↦ part_length r.form (layout r) (length given) s.rest narrow (s.holds.held due).1
-      | inr all ↦ end_length r.form s.rest (s.holds.tail (omega (arith, all, within, s.holds.count))).2
+      | inl due ↦ part_length r.channels.form (layout r) (length given) s.rest narrow (s.holds.held due).1
+      | inr all ↦ end_length r.channels.form s.rest (s.holds.tail (omega (arith, all, within, s.holds.count))).2
     ]
 
 -- ---- the bytes taken

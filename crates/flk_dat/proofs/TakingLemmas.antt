@@ -18,7 +18,7 @@ use Rattle.flk_dat.proofs.StateLemmas.{Stays, Given, rest_due, stands_held, stan
 
 -- what is held is less than the record that is due
 abbrev pub IsHeld : Reader → List ℕ → Type 0
-IsHeld r bytes = IsPartOf r.form (layout r) r.given bytes
+IsHeld r bytes = IsPartOf r.channels.form (layout r) r.given bytes
 
 nothing_added : (given : List DataRecord) (b : Rows) → given ++ added b b ≡ given
 nothing_added given b = ap (λ (x : List DataRecord). given ++ x) (added_none b b refl) ∙ append-nil given
@@ -47,9 +47,9 @@ pub record Whole (old : Reader) (piece : List ℕ) (n : ℕ) (mark : List ℕ) (
   pub some : 0 < n
   pub within : n ≤ length piece
   pub here : IsHeld old old.rest → (more : List ℕ) → IsRecord (layout old) old.given (old.rest ++ (take n piece ++ more)) r
-  pub after : IsHeld old old.rest → (more : List ℕ) → after_front old.form (layout old) old.given (old.rest ++ (take n piece ++ more)) ≡ mark ++ more
+  pub after : IsHeld old old.rest → (more : List ℕ) → after_front old.channels.form (layout old) old.given (old.rest ++ (take n piece ++ more)) ≡ mark ++ more
   pub follows : Follows old.before r.number
-  pub present : IsPresent old.form (layout old).selected r
+  pub present : IsPresent old.channels.form (layout old).selected r
   pub front : List ℕ
   pub byte : ℕ
   pub last : take n piece ≡ front ++ byte ∷ []
@@ -75,7 +75,7 @@ takes_whole old new before after piece n mark r g due out w =
         ap length records ∙ length_more before.records r,
         λ taken given s.
             let has = rest_due old taken given s due in
-            ends_record (layout old) taken given old.rest (take n piece) w.front w.byte has.0 w.last (subst (λ (k : ℕ). IsPartOf old.form (layout old) k (old.rest ++ w.front)) s.holds.count (w.part has.1)),
+            ends_record (layout old) taken given old.rest (take n piece) w.front w.byte has.0 w.last (subst (λ (k : ℕ). IsPartOf old.channels.form (layout old) k (old.rest ++ w.front)) s.holds.count (w.part has.1)),
       );
     }
 
@@ -127,7 +127,7 @@ pub record AtEnd (r : Reader) (taken : List ℕ) (given : List DataRecord) : Typ
   pub has : HasGiven (layout r) taken given rest
   pub bytes : r.tail.bytes ≡ length rest
   pub marks : r.tail.marks ≡ count_by (is_byte 26) rest
-  pub follows : MayFollow r.form rest
+  pub follows : MayFollow r.channels.form rest
 
 pub at_end : (r : Reader) (taken : List ℕ) (given : List DataRecord) → r.given ≡ r.records → Stands r taken given → AtEnd r taken given
 at_end r taken given all s =
@@ -137,13 +137,13 @@ at_end r taken given all s =
 
 -- the tail that is kept stands for the rest with the piece at its end
 pub record TailGrows (old new : Reader) (piece : List ℕ) : Type 0 where
-  pub grows : (rest : List ℕ) → old.tail.bytes ≡ length rest → old.tail.marks ≡ count_by (is_byte 26) rest → MayFollow old.form rest
-      → (new.tail.bytes ≡ length (rest ++ piece)) × (new.tail.marks ≡ count_by (is_byte 26) (rest ++ piece)) × MayFollow old.form (rest ++ piece)
+  pub grows : (rest : List ℕ) → old.tail.bytes ≡ length rest → old.tail.marks ≡ count_by (is_byte 26) rest → MayFollow old.channels.form rest
+      → (new.tail.bytes ≡ length (rest ++ piece)) × (new.tail.marks ≡ count_by (is_byte 26) (rest ++ piece)) × MayFollow old.channels.form (rest ++ piece)
 
 pub takes_tail : (old new : Reader) (b : Rows) (piece : List ℕ) → Stays old new → old.given ≡ old.records → TailGrows old new piece → 0 < length piece → Takes old new b b piece (length piece)
 takes_tail old new b piece stays all grows some =
     let records : new.records ≡ old.records = ap (λ (l : Layout). l.records) stays.layout_same in
-    let form : new.form ≡ old.form = ap (λ (l : Layout). l.form) stays.layout_same in
+    let form : new.channels.form ≡ old.channels.form = ap (λ (l : Layout). l.form) stays.layout_same in
     record {
       keeps = record { layout_same = stays.layout_same; grows = grows_same b };
       some = some;
@@ -167,7 +167,7 @@ takes_tail old new b piece stays all grows some =
     }
 
 pub stops_tail : (old : Reader) (b : Rows) (piece : List ℕ) (f : Fault) → old.given ≡ old.records → f ≡ record { field = 0; kind = kinds.Long }
-    → ((rest : List ℕ) → old.tail.bytes ≡ length rest → old.tail.marks ≡ count_by (is_byte 26) rest → MayFollow old.form rest → (more : List ℕ) → MayFollow old.form (rest ++ (piece ++ more)) → ⊥) → Stops old old b b piece f
+    → ((rest : List ℕ) → old.tail.bytes ≡ length rest → old.tail.marks ≡ count_by (is_byte 26) rest → MayFollow old.channels.form rest → (more : List ℕ) → MayFollow old.channels.form (rest ++ (piece ++ more)) → ⊥) → Stops old old b b piece f
 stops_tail old b piece f all is none = record {
   keeps = record { layout_same = refl; grows = grows_same b };
   count = λ taken given s. s.holds.count ∙ ap length (sym (nothing_added given b));

@@ -27,7 +27,7 @@ step_of : (form : Form) (l : Layout) (k : ℕ) (r : DataRecord) (more : List ℕ
 unfolding written_record
 step_of Ascii l k r more form few some w is = ascii_written l k r more form few some w is
 step_of Binary l k r more form few some w is =
-    let size : length (written_binary r) ≡ record_size (length l.selected) l.digital = binary_length r (length l.selected) l.digital w in
+    let size : length (written_binary r) ≡ record_size Binary (length l.selected) l.digital = binary_length r (length l.selected) l.digital w in
     (binary_written l k r more form w is, ap (λ (n : ℕ). drop n (written_binary r ++ more)) (sym size) ∙ drop-append_seam (written_binary r) more)
 
 -- the bytes are those of the records, whatever follows them

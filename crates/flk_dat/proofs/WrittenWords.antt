@@ -11,13 +11,14 @@ use Rattle.std.proofs.lemmas.List.{get_or-take, get_or-drop}
 use Rattle.std.proofs.lemmas.List.FromFn.{get_or-range_with_len, length-range_with_len}
 use Rattle.byteorder.specs.Endian.{little_bytes, little_number}
 use Rattle.byteorder.specs.Numbers.{little_number-reads_back, length-bytes_low_first}
+use Rattle.flk_cfg.specs.declared.config.Form.{Form}
 use Rattle.flk_cfg.specs.declared.config.Form.TheVariants.{Binary}
 use Rattle.flk_cfg.proofs.WrittenFields.{bit_small}
 use Rattle.flk_dat.specs.Records.{DataRecord, Layout, HasWidth}
-use Rattle.flk_dat.specs.BinaryRecords.{record_size, number_of, stamp_of, value_of, word_of, bit_of}
+use Rattle.flk_dat.specs.BinaryRecords.{record_size, number_of, stamp_of, value_of, word_of, bit_of, IsBinary}
 use Rattle.flk_dat.specs.DataFile.{IsRecord}
 use Rattle.flk_dat.specs.Written.{IsWordStamp, IsBinaryRecord, stamp_number, value_bytes, bits_number, word_bytes, written_binary}
-use Rattle.flk_dat.proofs.BinarySteps.{binary_record}
+use Rattle.flk_dat.proofs.BinarySteps.{binary_record, text_or_bytes}
 
 -- ---- pieces of one length
 
@@ -142,7 +143,7 @@ value_fits z range = omega (arith, ints, range.0, range.1)
 value_number : (z : ℤ) → FitsSigned w16 z → cast_unsigned w16 z < 256 ^ 2
 value_number z fits = omega (arith, Fits-of_z {w = w16} {z = z} fits)
 
-value_written : (r : DataRecord) (more : List ℕ) (i : ℕ) → IsBinaryRecord r → i < length r.analog → get_or r.analog i (pos 0) ≡ value_of (written_binary r ++ more) i
+value_written : (r : DataRecord) (more : List ℕ) (i : ℕ) → IsBinaryRecord r → i < length r.analog → get_or r.analog i (pos 0) ≡ value_of Binary (written_binary r ++ more) i
 unfolding value_of
 value_written r more i is lt =
     let z = get_or r.analog i (pos 0) in
@@ -173,7 +174,7 @@ word_written r more g lt =
     let small = word_small bits few in
     ap (little_number 2) behind ∙ little_number-reads_back 2 (bits_number bits) p.0 small
 
-bit_written : (r : DataRecord) (more : List ℕ) (i : ℕ) → i < length r.digital → get_or r.digital i false ≡ bit_of (length r.analog) (written_binary r ++ more) i
+bit_written : (r : DataRecord) (more : List ℕ) (i : ℕ) → i < length r.digital → get_or r.digital i false ≡ bit_of Binary (length r.analog) (written_binary r ++ more) i
 unfolding word_of
 bit_written r more i lt =
     let g = i / 16 in
@@ -196,23 +197,23 @@ binary_written l k r more form w is =
     let nv : length (values_of r) ≡ 2 * length r.analog = pieces_length value_bytes 2 r.analog value_length in
     let nw : length (words_of r) ≡ 2 * ((length r.digital + 15) / 16) =
     pieces_length (word_bytes r.digital) 2 (range_with_len 0 ((length r.digital + 15) / 16)) (word_length r.digital) ∙ ap (λ (n : ℕ). 2 * n) (length-range_with_len 0 ((length r.digital + 15) / 16)) in
-    binary_record l k bytes r form (record {
-      whole = subst (λ (a : ℕ). record_size a digital ≤ length bytes) w.analog_count (subst (λ (d : ℕ). record_size (length r.analog) d ≤ length bytes) w.digital_count (omega (arith, size, nv, nw)));
+    binary_record l k bytes r (λ e. text_or_bytes (sym form ∙ e)) (subst (λ (f : Form). IsBinary f analog digital bytes r) (sym form) (record {
+      whole = subst (λ (a : ℕ). record_size Binary a digital ≤ length bytes) w.analog_count (subst (λ (d : ℕ). record_size Binary (length r.analog) d ≤ length bytes) w.digital_count (omega (arith, size, nv, nw)));
       number = sym (number_written r more is);
       stamp = stamp_there r.stamp is.stamp ∙ ap (λ (n : ℕ). Some n) (sym (stamp_written r more is));
       analog_count = w.analog_count;
       analog_values = λ i lt. value_written r more i is (omega (arith, lt, w.analog_count));
       digital_count = w.digital_count;
-      digital_values = λ i lt. subst (λ (a : ℕ). get_or r.digital i false ≡ bit_of a bytes i) w.analog_count (bit_written r more i (omega (arith, lt, w.digital_count)));
-    })
+      digital_values = λ i lt. subst (λ (a : ℕ). get_or r.digital i false ≡ bit_of Binary a bytes i) w.analog_count (bit_written r more i (omega (arith, lt, w.digital_count)));
+    }))
 
-pub binary_length : (r : DataRecord) (analog digital : ℕ) → HasWidth analog digital r → length (written_binary r) ≡ record_size analog digital
+pub binary_length : (r : DataRecord) (analog digital : ℕ) → HasWidth analog digital r → length (written_binary r) ≡ record_size Binary analog digital
 binary_length r analog digital w =
     let nv : length (values_of r) ≡ 2 * length r.analog = pieces_length value_bytes 2 r.analog value_length in
     let nw : length (words_of r) ≡ 2 * ((length r.digital + 15) / 16) =
     pieces_length (word_bytes r.digital) 2 (range_with_len 0 ((length r.digital + 15) / 16)) (word_length r.digital) ∙ ap (λ (n : ℕ). 2 * n) (length-range_with_len 0 ((length r.digital + 15) / 16)) in
     let n = little_bytes 4 r.number in
     let s = little_bytes 4 (stamp_number r.stamp) in
-    let size : length (written_binary r) ≡ record_size (length r.analog) (length r.digital) =
+    let size : length (written_binary r) ≡ record_size Binary (length r.analog) (length r.digital) =
     omega (arith, nv, nw, little_length 4 r.number, little_length 4 (stamp_number r.stamp), length-append n (s ++ (values_of r ++ words_of r)), length-append s (values_of r ++ words_of r), length-append (values_of r) (words_of r)) in
-    size ∙ ap (λ (a : ℕ). record_size a (length r.digital)) w.analog_count ∙ ap (record_size analog) w.digital_count
+    size ∙ ap (λ (a : ℕ). record_size Binary a (length r.digital)) w.analog_count ∙ ap (record_size Binary analog) w.digital_count

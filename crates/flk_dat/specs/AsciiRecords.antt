@@ -27,7 +27,8 @@ pub record IsRow (analog digital : ℕ) (parts : List (List ℕ)) (r : DataRecor
   pub analog_count : length r.analog ≡ analog
   pub analog_values : (i : ℕ) → i < analog → IsSample (get_or parts (2 + i) []) (slice_index_or r.analog i (pos 0))
   pub digital_count : length r.digital ≡ digital
-  pub digital_values : (i : ℕ) → i < digital → IsBit (get_or parts (2 + analog + i) []) (slice_index_or r.digital i false)
+  pub digital_values : (i : ℕ) → i < digital
+      → IsBit (get_or parts (2 + analog + i) []) (slice_index_or r.digital i false)
 
 -- the line writes the record
 pub record IsLine (analog digital : ℕ) (line : List ℕ) (r : DataRecord) : Type 0 where
@@ -39,7 +40,8 @@ pub record IsLine (analog digital : ℕ) (line : List ℕ) (r : DataRecord) : Ty
 -- the set of the j-th field, from 0
 unfoldable pub column : (selected : List Bool) → (before : Option ℕ) → ℕ → Set
 column selected before j =
-    cond (eqb j 0) (Number before) (cond (eqb j 1) Stamp (cond (ltb j (2 + length selected)) (Analog (slice_index_or selected (j - 2) false)) Digital))
+    cond (eqb j 0) (Number before) (cond (eqb j 1) Stamp
+    (cond (ltb j (2 + length selected)) (Analog (slice_index_or selected (j - 2) false)) Digital))
 
 -- of so many fields the i-th, from 0, is the first from the left that isn't in its set
 pub record IsFirstOut (sets : ℕ → Set) (count : ℕ) (parts : List (List ℕ)) (i : ℕ) (kind : Kind) : Type 0 where
@@ -48,14 +50,17 @@ pub record IsFirstOut (sets : ℕ → Set) (count : ℕ) (parts : List (List ℕ
   pub here : Refuses (sets i) (get_or parts i []) kind
 
 -- the count of fields comes first, and then the fields from the left, which count from 1
-abbrev pub RowFault : (selected : List Bool) → (digital : ℕ) → (before : Option ℕ) → List (List ℕ) → (field : ℕ) → Kind → Type 0
+abbrev pub RowFault : (selected : List Bool) → (digital : ℕ) → (before : Option ℕ) → List (List ℕ) → (field : ℕ) → Kind
+    → Type 0
 RowFault selected digital before parts field kind =
     ((length parts ≢ field_total (length selected) digital) × (field ≡ 0) × (kind ≡ kinds.Fields))
     ⊎ ((length parts ≡ field_total (length selected) digital)
-    × (i : ℕ) × (field ≡ i + 1) × IsFirstOut (column selected before) (field_total (length selected) digital) parts i kind)
+    × (i : ℕ) × (field ≡ i + 1)
+    × IsFirstOut (column selected before) (field_total (length selected) digital) parts i kind)
 
 -- the length of the line comes before its fields
-abbrev pub LineFault : (selected : List Bool) → (digital : ℕ) → (before : Option ℕ) → List ℕ → (field : ℕ) → Kind → Type 0
+abbrev pub LineFault : (selected : List Bool) → (digital : ℕ) → (before : Option ℕ) → List ℕ → (field : ℕ) → Kind
+    → Type 0
 LineFault selected digital before line field kind =
     ((longest_line < length line) × (field ≡ 0) × (kind ≡ kinds.Length))
     ⊎ ((length line ≤ longest_line) × RowFault selected digital before (fields line) field kind)

@@ -1,5 +1,5 @@
--- The data file (IEEE C37.111-1999, clause 6): which bytes write which records, and the first fault of bytes that write none. A
--- record is counted from 0 here, and from 1 where it is named.
+-- The data file (IEEE C37.111-1999, clause 6): which bytes write which records, and the first fault of bytes that write
+-- none. A record is counted from 0 here, and from 1 where it is named.
 use Rattle.std.specs.Prelude.{◌≡◌, ℕ, ◌+◌, ◌-◌, ◌*◌, ◌<◌, ◌≤◌, ◌⊎◌, cond, eqb, List, [], length, drop, Option}
 use Rattle.flk_text.specs.Lines.{line_of, last_line_of, tail_of}
 use Rattle.flk_text.specs.Tail.{IsTail}
@@ -25,12 +25,13 @@ after_rows records k bytes = cond (eqb k records) (tail_of (after_lines (k - 1) 
 -- what follows the first k records
 abbrev pub after_of : Form → Layout → ℕ → List ℕ → List ℕ
 after_of Ascii l k bytes = after_rows l.records k bytes
-after_of Binary l k bytes = drop (record_size (length l.selected) l.digital * k) bytes
+after_of Binary l k bytes = drop (record_size Binary (length l.selected) l.digital * k) bytes
 
 unfoldable pub after_records : Layout → ℕ → List ℕ → List ℕ
 after_records l k bytes = after_of l.form l k bytes
 
--- the line at the front of what follows the first k records: the last record's line ends as the last line of a file does
+-- the line at the front of what follows the first k records: the last record's line ends as the last line of a file
+-- does
 abbrev pub line_at : (records k : ℕ) → List ℕ → List ℕ
 line_at records k rest = cond (eqb (k + 1) records) (last_line_of rest) (line_of rest)
 
@@ -39,7 +40,7 @@ line_at records k rest = cond (eqb (k + 1) records) (last_line_of rest) (line_of
 -- the k-th record stands at the front of these bytes
 abbrev pub StandsInFront : Form → Layout → ℕ → List ℕ → DataRecord → Type 0
 StandsInFront Ascii l k rest r = IsLine (length l.selected) l.digital (line_at l.records k rest) r
-StandsInFront Binary l k rest r = IsBinary (length l.selected) l.digital rest r
+StandsInFront Binary l k rest r = IsBinary Binary (length l.selected) l.digital rest r
 
 unfoldable pub IsRecord : Layout → ℕ → List ℕ → DataRecord → Type 0
 IsRecord l k rest r = StandsInFront l.form l k rest r
@@ -71,8 +72,9 @@ pub record IsAccepted (l : Layout) (bytes : List ℕ) (rs : List DataRecord) : T
 -- the k-th record isn't at the front of these bytes, or isn't good
 abbrev pub FaultInFront : Form → Layout → ℕ → (before : Option ℕ) → List ℕ → (field : ℕ) → Kind → Type 0
 FaultInFront Ascii l k before rest field kind =
-    (IsBlank rest × (field ≡ 0) × (kind ≡ kinds.Short)) ⊎ ((IsBlank rest → ⊥) × LineFault l.selected l.digital before (line_at l.records k rest) field kind)
-FaultInFront Binary l k before rest field kind = BinaryFault l.selected l.digital before rest field kind
+    (IsBlank rest × (field ≡ 0) × (kind ≡ kinds.Short))
+    ⊎ ((IsBlank rest → ⊥) × LineFault l.selected l.digital before (line_at l.records k rest) field kind)
+FaultInFront Binary l k before rest field kind = BinaryFault Binary l.selected l.digital before rest field kind
 
 unfoldable pub RecordFault : Layout → ℕ → (before : Option ℕ) → List ℕ → (field : ℕ) → Kind → Type 0
 RecordFault l k before rest field kind = FaultInFront l.form l k before rest field kind
@@ -85,9 +87,12 @@ EndFault l rest field kind = (field ≡ 0) × (kind ≡ kinds.Long) × (MayFollo
 pub record IsFaultAfter (l : Layout) (bytes : List ℕ) (rs : List DataRecord) (field : ℕ) (kind : Kind) : Type 0 where
   pub first : AreFirst l bytes rs
   pub present : ArePresent l rs
-  pub here : ((length rs < l.records) × RecordFault l (length rs) (last_number rs) (after_records l (length rs) bytes) field kind)
+  pub here : ((length rs < l.records)
+      × RecordFault l (length rs) (last_number rs) (after_records l (length rs) bytes) field kind)
       ⊎ ((length rs ≡ l.records) × EndFault l (after_records l l.records bytes) field kind)
 
--- the first record that isn't there or isn't good, by its number from 1, its first faulty field, and the kind of the fault
-abbrev pub IsFirstFault : Layout → List ℕ → (row field : ℕ) → Kind → Type 0
-IsFirstFault l bytes row field kind = (rs : List DataRecord) × (row ≡ length rs + 1) × IsFaultAfter l bytes rs field kind
+-- the first record that isn't there or isn't good, by its number from 1, its first faulty field, and the kind of the
+-- fault
+abbrev pub IsFirstDataFault : Layout → List ℕ → (row field : ℕ) → Kind → Type 0
+IsFirstDataFault l bytes row field kind = (rs : List DataRecord) × (row ≡ length rs + 1)
+    × IsFaultAfter l bytes rs field kind

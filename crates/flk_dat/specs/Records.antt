@@ -5,7 +5,8 @@ use Rattle.flk_cfg.specs.declared.config.Config.{Config}
 use Rattle.flk_cfg.specs.declared.config.Form.{Form}
 use Rattle.flk_cfg.specs.declared.config.Form.TheVariants.{Ascii, Binary}
 
--- a record: a sample number, a time stamp or none, and the values of the analog and the digital channels, each in their order
+-- a record: a sample number, a time stamp or none, and the values of the analog and the digital channels, each in their
+-- order
 pub record DataRecord : Type 0 where
   pub number : ℕ
   pub stamp : Option ℕ
@@ -44,8 +45,8 @@ pub record IsBlockFor (c : Config) (b : Rows) : Type 0 where
 
 -- ---- the form of the records
 
--- the form of the file, the number of its records, for each analog channel whether it is selected, and the number of digital
--- channels
+-- the form of the file, the number of its records, for each analog channel whether it is selected, and the number of
+-- digital channels
 pub record Layout : Type 0 where
   pub form : Form
   pub records : ℕ
@@ -60,9 +61,15 @@ is_among numbers n = list_any (λ m. eqb m n) numbers
 abbrev pub selected_of : (channels : ℕ) → List ℕ → List Bool
 selected_of channels numbers = map (λ i. is_among numbers (i + 1)) (range_with_len 0 channels)
 
--- the layout of a configuration's data, with the channels of these numbers selected; a number of no channel selects nothing
+-- the layout of a configuration's data, with the channels of these numbers selected; a number of no channel selects
+-- nothing
 abbrev pub layout_of : Config → List ℕ → Layout
-layout_of c numbers = record { form = c.form; records = c.endsamp; selected = selected_of (length c.analog) numbers; digital = length c.digital }
+layout_of c numbers = record {
+  form = c.form;
+  records = c.endsamp;
+  selected = selected_of (length c.analog) numbers;
+  digital = length c.digital;
+}
 
 -- ---- the order of the records
 
@@ -90,7 +97,8 @@ missing_value Binary = negsuc 32767
 
 -- no value of a selected channel is missing
 abbrev pub IsPresent : Form → List Bool → DataRecord → Type 0
-IsPresent form selected r = (i : ℕ) → slice_index_or selected i false ≡ true → slice_index_or r.analog i (pos 0) ≢ missing_value form
+IsPresent form selected r = (i : ℕ) → slice_index_or selected i false ≡ true
+    → slice_index_or r.analog i (pos 0) ≢ missing_value form
 
 abbrev pub ArePresent : Layout → List DataRecord → Type 0
 ArePresent l rs = (k : ℕ) → k < length rs → IsPresent l.form l.selected (record_at rs k)

@@ -1,5 +1,5 @@
--- The fields of an ASCII record (IEEE C37.111-1999, clause 6.4): the set of each field, and the kind of a field that isn't in its
--- set. What a whole number is stands in the crate of COMTRADE text.
+-- The fields of an ASCII record (IEEE C37.111-1999, clause 6.4): the set of each field, and the kind of a field that
+-- isn't in its set. What a whole number is stands in the crate of COMTRADE text.
 use Rattle.std.specs.Prelude.{◌≡◌, ◌≢◌, ℕ, ◌⊎◌, Bool, true, List, [], ℤ, pos, negsuc, ◌≤ℤ◌, Option, Some, None}
 use Rattle.flk_text.specs.WholeNumber.{IsWholeValue, IsWholeForm}
 use Rattle.flk_cfg.specs.Values.{IsWholeFrom, IsBit}
@@ -40,8 +40,8 @@ pub record IsSample (f : List ℕ) (z : ℤ) : Type 0 where
   pub at_least : least_sample ≤ℤ z
   pub at_most : z ≤ℤ most_sample
 
--- the sets of the fields: a sample number that follows the one before, a time stamp, an analog value, which may be missing only in
--- a channel that isn't selected, and a digital value, 0 or 1
+-- the sets of the fields: a sample number that follows the one before, a time stamp, an analog value, which may be
+-- missing only in a channel that isn't selected, and a digital value, 0 or 1
 pub data Set : Type 0 where
   Number : (before : Option ℕ) → Set
   Stamp : Set
@@ -62,16 +62,20 @@ IsIn Digital f = (b : Bool) × IsBit f b
 -- no whole number up to the most: it isn't of the form, or it is and its value is out of the set
 abbrev pub NoWhole : (most : ℕ) → List ℕ → Kind → Type 0
 NoWhole most f kind =
-    ((kind ≡ kinds.Number) × (IsWholeForm f → ⊥)) ⊎ ((kind ≡ kinds.Range) × IsWholeForm f × ((n : ℕ) → IsWholeFrom 0 most f n → ⊥))
+    ((kind ≡ kinds.Number) × (IsWholeForm f → ⊥))
+    ⊎ ((kind ≡ kinds.Range) × IsWholeForm f × ((n : ℕ) → IsWholeFrom 0 most f n → ⊥))
 
 -- no analog value
 abbrev pub NoSample : List ℕ → Kind → Type 0
 NoSample f kind =
-    ((kind ≡ kinds.Number) × (IsWholeForm f → ⊥)) ⊎ ((kind ≡ kinds.Range) × IsWholeForm f × ((z : ℤ) → IsSample f z → ⊥))
+    ((kind ≡ kinds.Number) × (IsWholeForm f → ⊥))
+    ⊎ ((kind ≡ kinds.Range) × IsWholeForm f × ((z : ℤ) → IsSample f z → ⊥))
 
 -- the field isn't in the set, and its fault is of this kind
 unfoldable pub Refuses : Set → List ℕ → Kind → Type 0
-Refuses (Number before) f kind = NoWhole most_number f kind ⊎ ((kind ≡ kinds.Order) × (n : ℕ) × IsNumber f n × (Follows before n → ⊥))
+Refuses (Number before) f kind = NoWhole most_number f kind
+    ⊎ ((kind ≡ kinds.Order) × (n : ℕ) × IsNumber f n × (Follows before n → ⊥))
 Refuses Stamp f kind = (f ≢ []) × NoWhole most_stamp f kind
-Refuses (Analog selected) f kind = NoSample f kind ⊎ ((kind ≡ kinds.Missing) × (selected ≡ true) × IsSample f (missing_value Ascii))
+Refuses (Analog selected) f kind = NoSample f kind
+    ⊎ ((kind ≡ kinds.Missing) × (selected ≡ true) × IsSample f (missing_value Ascii))
 Refuses Digital f kind = NoWhole 1 f kind

@@ -4,7 +4,7 @@ use Rattle.std.specs.List.{list_all}
 use Rattle.flk_text.specs.Lines.{is_byte, ends_last_line}
 use Rattle.flk_cfg.specs.declared.config.Form.{Form}
 use Rattle.flk_cfg.specs.declared.config.Form.TheVariants.{Ascii, Binary}
-use Rattle.flk_dat.specs.Kinds.{kind_number}
+use Rattle.flk_dat.specs.Kinds.{data_kind_number}
 use Rattle.flk_dat.specs.Records.{DataRecord, Rows, Layout, ArePresent}
 use Rattle.flk_dat.specs.AsciiRecords.{longest_line}
 use Rattle.flk_dat.specs.BinaryRecords.{record_size}
@@ -22,12 +22,13 @@ IsUnended last bytes = list_all (λ b. not (ends_line last b)) bytes ≡ true
 
 -- the bytes may begin a line that isn't too long: a CR behind the longest line may belong to its end
 abbrev pub MayBegin : List ℕ → Type 0
-MayBegin bytes = (length bytes ≤ longest_line) ⊎ ((length bytes ≡ longest_line + 1) × (slice_index bytes longest_line ≡ 13))
+MayBegin bytes = (length bytes ≤ longest_line)
+    ⊎ ((length bytes ≡ longest_line + 1) × (slice_index bytes longest_line ≡ 13))
 
 -- less than the k-th record
 abbrev pub IsPartOf : Form → Layout → ℕ → List ℕ → Type 0
 IsPartOf Ascii l k bytes = IsUnended (eqb (k + 1) l.records) bytes × MayBegin bytes
-IsPartOf Binary l k bytes = length bytes < record_size (length l.selected) l.digital
+IsPartOf Binary l k bytes = length bytes < record_size Binary (length l.selected) l.digital
 
 -- the bytes taken are those of the records given, and then the rest, whatever follows them
 pub record HasGiven (l : Layout) (taken : List ℕ) (given : List DataRecord) (rest : List ℕ) : Type 0 where
@@ -39,14 +40,14 @@ pub record HasGiven (l : Layout) (taken : List ℕ) (given : List DataRecord) (r
 pub record HasFault (l : Layout) (bytes : List ℕ) (given : List DataRecord) (f : DatFault) : Type 0 where
   pub row : f.row ≡ length given + 1
   pub kind : Kind
-  pub number : f.kind ≡ kind_number kind
+  pub number : f.kind ≡ data_kind_number kind
   pub sure : (more : List ℕ) → IsFaultAfter l (bytes ++ more) given f.field kind
 
 -- the bytes as a whole input have the fault behind the records given
 pub record EndsInFault (l : Layout) (bytes : List ℕ) (given : List DataRecord) (f : DatFault) : Type 0 where
   pub row : f.row ≡ length given + 1
   pub kind : Kind
-  pub number : f.kind ≡ kind_number kind
+  pub number : f.kind ≡ data_kind_number kind
   pub here : IsFaultAfter l bytes given f.field kind
 
 -- the last of the bytes makes the k-th record whole: before it less than that record was there

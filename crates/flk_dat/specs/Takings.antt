@@ -13,24 +13,29 @@ pub record Keeps (old new : Reader) (before after : Rows) : Type 0 where
   pub layout_same : layout new ≡ layout old
   pub grows : Grows before after
 
--- up to n bytes of the piece were taken: all of them and no record became whole, or one became whole with the last of them
+-- up to n bytes of the piece were taken: all of them and no record became whole, or one became whole with the last of
+-- them
 pub record Takes (old new : Reader) (before after : Rows) (piece : List ℕ) (n : ℕ) : Type 0 where
   pub keeps : Keeps old new before after
   pub some : 0 < n
   pub within : n ≤ length piece
-  pub stands : (taken : List ℕ) (given : List DataRecord) → Stands old taken given → Stands new (taken ++ take n piece) (given ++ added before after)
+  pub stands : (taken : List ℕ) (given : List DataRecord) → Stands old taken given
+      → Stands new (taken ++ take n piece) (given ++ added before after)
   pub ends : ((length after.records ≡ length before.records) × (n ≡ length piece))
       ⊎ ((length after.records ≡ length before.records + 1)
-      × ((taken : List ℕ) (given : List DataRecord) → Stands old taken given → EndsRecord (layout old) (length given) (taken ++ take n piece)))
+      × ((taken : List ℕ) (given : List DataRecord) → Stands old taken given
+      → EndsRecord (layout old) (length given) (taken ++ take n piece)))
 
 -- n bytes of the piece were taken: all of them, or those up to the end of the last record for which there is room
 pub record Taking (old new : Reader) (before after : Rows) (piece : List ℕ) (n : ℕ) : Type 0 where
   pub keeps : Keeps old new before after
   pub within : n ≤ length piece
-  pub stands : (taken : List ℕ) (given : List DataRecord) → Stands old taken given → Stands new (taken ++ take n piece) (given ++ added before after)
+  pub stands : (taken : List ℕ) (given : List DataRecord) → Stands old taken given
+      → Stands new (taken ++ take n piece) (given ++ added before after)
   pub nothing : before.room ≤ length before.records → (n ≡ 0) × (after ≡ before)
   pub idle : n ≡ 0 → after ≡ before
-  pub full : (taken : List ℕ) (given : List DataRecord) → Stands old taken given → length before.records < before.room → after.room ≤ length after.records
+  pub full : (taken : List ℕ) (given : List DataRecord) → Stands old taken given → length before.records < before.room
+      → after.room ≤ length after.records
       → EndsRecord (layout old) (length (given ++ added before after) - 1) (taken ++ take n piece)
 
 pub record TakesAll (old new : Reader) (before after : Rows) (piece : List ℕ) (n : ℕ) : Type 0 where
@@ -41,14 +46,14 @@ pub record TakesAll (old new : Reader) (before after : Rows) (piece : List ℕ) 
 -- the bytes of the piece have a fault, whatever follows them
 pub record Stops (old new : Reader) (before after : Rows) (piece : List ℕ) (f : Fault) : Type 0 where
   pub keeps : Keeps old new before after
-  pub count : (taken : List ℕ) (given : List DataRecord) → Stands old taken given → new.given ≡ length (given ++ added before after)
+  pub count : (taken : List ℕ) (given : List DataRecord) → Stands old taken given
+      → new.given ≡ length (given ++ added before after)
   pub sure : (taken : List ℕ) (given : List DataRecord) → Stands old taken given → (more : List ℕ)
       → IsFaultAfter (layout old) ((taken ++ piece) ++ more) (given ++ added before after) f.field f.kind
 
 -- one record more was given
 pub record Gives (old new : Reader) (number : ℕ) (end : Tail) : Type 0 where
   pub layout_same : layout new ≡ layout old
-  pub form : new.form ≡ old.form
   pub fault : new.fault ≡ old.fault
   pub rest : new.rest ≡ old.rest
   pub given : new.given ≡ old.given + 1
@@ -58,10 +63,13 @@ pub record Gives (old new : Reader) (number : ℕ) (end : Tail) : Type 0 where
 -- the bytes taken are accepted
 pub record Ends (old new : Reader) (before after : Rows) : Type 0 where
   pub keeps : Keeps old new before after
-  pub accepted : (taken : List ℕ) (given : List DataRecord) → Stands old taken given → IsAccepted (layout old) taken (given ++ added before after)
+  pub accepted : (taken : List ℕ) (given : List DataRecord) → Stands old taken given
+      → IsAccepted (layout old) taken (given ++ added before after)
 
 -- the bytes taken have a fault
 pub record Falls (old new : Reader) (before after : Rows) (f : Fault) : Type 0 where
   pub keeps : Keeps old new before after
-  pub count : (taken : List ℕ) (given : List DataRecord) → Stands old taken given → new.given ≡ length (given ++ added before after)
-  pub here : (taken : List ℕ) (given : List DataRecord) → Stands old taken given → IsFaultAfter (layout old) taken (given ++ added before after) f.field f.kind
+  pub count : (taken : List ℕ) (given : List DataRecord) → Stands old taken given
+      → new.given ≡ length (given ++ added before after)
+  pub here : (taken : List ℕ) (given : List DataRecord) → Stands old taken given
+      → IsFaultAfter (layout old) taken (given ++ added before after) f.field f.kind

@@ -89,7 +89,9 @@ word_bytes bits i = little_bytes 2 (bits_number (take 16 (drop (16 * i) bits)))
 abbrev pub written_binary : DataRecord → List ℕ
 written_binary r =
     little_bytes 4 r.number
-    ++ (little_bytes 4 (stamp_number r.stamp) ++ (flat_map value_bytes r.analog ++ flat_map (word_bytes r.digital) (range_with_len 0 ((length r.digital + 15) / 16))))
+    ++ (little_bytes 4 (stamp_number r.stamp)
+    ++ (flat_map value_bytes r.analog
+    ++ flat_map (word_bytes r.digital) (range_with_len 0 ((length r.digital + 15) / 16))))
 
 -- ---- the record
 

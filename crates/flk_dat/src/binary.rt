@@ -1,46 +1,72 @@
-//! BINARY records.
+//! Binary records.
 
-ghost use Rattle.std.specs.Prelude.{◌≡◌, ◌≢◌, ◌+◌, ◌*◌, ◌/◌, ◌<◌, ◌≤◌, ℕ, pos, true, false, length, slice_index_or, OnOk, IfOk, IfErr, MatchOption};
+ghost use Rattle.std.specs.Prelude.{◌≡◌, ◌≢◌, ◌+◌, ◌*◌, ◌/◌, ◌<◌, ◌≤◌, ℕ, pos, true, false, length, slice_index_or, OnOk, IfOk, IfErr, MatchOption, MatchResult};
 ghost use Rattle.flk_dat.specs.Records.{Follows, IsPresent, missing_value};
-ghost use Rattle.flk_dat.specs.BinaryRecords.{record_size as size_of_record, IsBinary, IsFirstMissing, WholeFault, number_of, stamp_of, value_of, word_of, bit_of};
-ghost use Rattle.flk_dat.specs.Heads.{headed};
-ghost use Rattle.flk_cfg.specs.declared.config.Form.TheVariants as forms;
+ghost use Rattle.flk_dat.specs.BinaryRecords.{value_width as width_of_value, record_size as size_of_record, IsBinary, IsFirstMissing, WholeFault, number_of, stamp_of, value_of, word_of, bit_of};
+ghost use Rattle.flk_dat.specs.Blocks.{row_in, HavePlace, ChangesPlace, ChangesRow};
+ghost use Rattle.flk_dat.specs.Heads.{headed, HasRow};
 
+use crate::channels::Channels;
+use crate::column::Column;
+use crate::columns::Columns;
 use crate::fields::follows;
 use crate::head::Head;
 use crate::kind::{Fault, Kind};
 use byteorder::{ByteOrder, LittleEndian};
+use flk_cfg::Form;
 
 /// The bytes of the sample number and the time stamp.
 const HEAD_BYTES: usize = 8;
 
+/// The bytes of an analog value.
+pub fn value_width(form: Form) -> usize
+    ensures { result ≡ width_of_value form }
+{
+    match form {
+        Form::Ascii => 0,
+        Form::Binary => 2,
+    }
+}
+
 /// The value that marks a missing sample.
-const MISSING: i16 = -32_768;
+fn missing(form: Form) -> i32
+    ensures { result ≡ missing_value form }
+{
+    match form {
+        Form::Ascii => 99_999,
+        Form::Binary => -32_768,
+    }
+}
 
 /// The bytes of a record of so many analog and digital channels.
-pub fn record_size(analog: usize, digital: usize) -> usize
+pub fn record_size(form: Form, analog: usize, digital: usize) -> usize
     requires { (analog ≤ 256) × (digital ≤ 256) }
-    ensures { result ≡ size_of_record analog digital }
+    ensures { result ≡ size_of_record form analog digital }
 {
-    HEAD_BYTES + 2 * analog + 2 * ((digital + 15) / 16)
+    HEAD_BYTES + value_width(form) * analog + 2 * ((digital + 15) / 16)
 }
 
 /// The value of an analog channel, counted from 0.
 #[tactic(auto, unfolding(crate::specs::BinaryRecords::value_of))]
-fn value_at(bytes: &[u8], i: usize) -> i16
-    requires { 8 + 2 * i + 2 ≤ length bytes.now }
-    ensures { result ≡ value_of bytes.now i }
+fn value_at(form: Form, bytes: &[u8], i: usize) -> i32
+    requires few { i < 256 }
+    requires there { 8 + width_of_value form * i + width_of_value form ≤ length bytes.now }
+    ensures { result ≡ value_of form bytes.now i }
 {
-    LittleEndian::read_i16(&bytes[HEAD_BYTES + 2 * i..])
+    match form {
+        Form::Ascii => 0,
+        Form::Binary => i32::from(LittleEndian::read_i16(&bytes[HEAD_BYTES + 2 * i..])),
+    }
 }
 
 /// The word of a digital channel, counted from 0.
 #[tactic(auto, unfolding(crate::specs::BinaryRecords::word_of))]
-fn word_at(bytes: &[u8], analog: usize, i: usize) -> u16
-    requires { 8 + 2 * analog + 2 * (i / 16) + 2 ≤ length bytes.now }
-    ensures { result ≡ word_of analog bytes.now i }
+fn word_at(form: Form, bytes: &[u8], analog: usize, i: usize) -> u16
+    requires few { (analog ≤ 256) × (i < 256) }
+    requires there { 8 + width_of_value form * analog + 2 * (i / 16) + 2 ≤ length bytes.now }
+    ensures { result ≡ word_of form analog bytes.now i }
 {
-    LittleEndian::read_u16(&bytes[HEAD_BYTES + 2 * analog + 2 * (i / 16)..])
+    LittleEndian::read_u16(&bytes[HEAD_BYTES + value_width(form) * analog + 2 * (i / 16)..])
 }
 
 /// The sample number.
@@ -62,61 +88,82 @@ fn stamp_at(bytes: &[u8]) -> u32
 }
 
 /// The value of an analog channel, counted from 0, or None where it is missing and the channel is selected.
-fn value_or_missing(bytes: &[u8], i: usize, selected: bool) -> Option<i32>
-    requires { 8 + 2 * i + 2 ≤ length bytes.now }
-    ensures { MatchOption result ((selected ≡ true) × (value_of bytes.now i ≡ missing_value forms.Binary)) (λ v. (v ≡ value_of bytes.now i) × (selected ≡ true → value_of bytes.now i ≢ missing_value forms.Binary)) }
+fn value_or_missing(form: Form, bytes: &[u8], i: usize, selected: bool) -> Option<i32>
+    requires few { i < 256 }
+    requires there { 8 + width_of_value form * i + width_of_value form ≤ length bytes.now }
+    ensures { MatchOption result ((selected ≡ true) × (value_of form bytes.now i ≡ missing_value form))
+        (λ v. (v ≡ value_of form bytes.now i) × (selected ≡ true → value_of form bytes.now i ≢ missing_value form)) }
 {
-    let value = value_at(bytes, i);
-    if selected && value == MISSING {
+    let value = value_at(form, bytes, i);
+    if selected && value == missing(form) {
         None
     } else {
-        Some(i32::from(value))
+        Some(value)
     }
 }
 
-/// Reads the analog values, or answers the place of the first selected channel whose value is missing.
-fn read_values(bytes: &[u8], selected: &[bool], values: &mut [i32]) -> Result<(), usize>
-    requires few { length selected.now ≤ 256 }
-    requires same { length values.old ≡ length selected.now }
-    requires there { 8 + 2 * length selected.now ≤ length bytes.now }
-    ensures values { OnOk result ((i : ℕ) → i < length selected.now → slice_index_or values.new i (pos 0) ≡ value_of bytes.now i) }
-    ensures present { OnOk result ((i : ℕ) → i < length selected.now → slice_index_or selected.now i false ≡ true → value_of bytes.now i ≢ missing_value forms.Binary) }
-    ensures missing { IfErr result (λ i. IsFirstMissing selected.now bytes.now i) }
+/// Reads the analog values into a row of the columns, or answers the place of the first selected channel whose value is
+/// missing.
+fn read_values(
+    channels: &Channels,
+    bytes: &[u8],
+    columns: &mut Vec<Column<i32>>,
+    row: usize,
+) -> Result<(), usize>
+    requires there { size_of_record channels.now.form (length channels.now.selected.items) 0 ≤ length bytes.now }
+    requires same { length columns.old.items ≡ length channels.now.selected.items }
+    requires places { HavePlace row columns.old.items }
+    ensures changed { ChangesPlace row (pos 0) columns.old.items columns.new.items }
+    ensures values { OnOk result ((i : ℕ) → i < length channels.now.selected.items
+        → slice_index_or (row_in row (pos 0) columns.new.items) i (pos 0) ≡ value_of channels.now.form bytes.now i) }
+    ensures present { OnOk result ((i : ℕ) → i < length channels.now.selected.items
+        → slice_index_or channels.now.selected.items i false ≡ true
+        → value_of channels.now.form bytes.now i ≢ missing_value channels.now.form) }
+    ensures missing { IfErr result (λ i. IsFirstMissing channels.now.form channels.now.selected.items bytes.now i) }
 {
-    for i in 0..selected.len() {
-        match value_or_missing(bytes, i, selected[i]) {
-            Some(value) => values[i] = value,
+    for i in 0..channels.selected.len() {
+        match value_or_missing(channels.form, bytes, i, channels.selected[i]) {
+            Some(value) => columns[i].put(row, value),
             None => return Err(i),
         }
     }
     Ok(())
 }
 
-/// Reads the digital values, which follow so many analog ones.
-fn read_bits(bytes: &[u8], analog: usize, values: &mut [bool])
-    requires few { (length values.old ≤ 256) × (analog ≤ 256) }
-    requires there { size_of_record analog (length values.old) ≤ length bytes.now }
-    ensures { (i : ℕ) → i < length values.old → slice_index_or values.new i false ≡ bit_of analog bytes.now i }
+/// Reads the digital values, which follow so many analog ones, into a row of the columns.
+fn read_bits(form: Form, bytes: &[u8], analog: usize, columns: &mut Vec<Column<bool>>, row: usize)
+    requires few { (length columns.old.items ≤ 256) × (analog ≤ 256) }
+    requires there { size_of_record form analog (length columns.old.items) ≤ length bytes.now }
+    requires places { HavePlace row columns.old.items }
+    ensures changed { ChangesPlace row false columns.old.items columns.new.items }
+    ensures values { (i : ℕ) → i < length columns.old.items
+        → slice_index_or (row_in row false columns.new.items) i false ≡ bit_of form analog bytes.now i }
 {
-    for i in 0..values.len() {
-        values[i] = (word_at(bytes, analog, i) >> (i % 16)) % 2 == 1;
+    for i in 0..columns.len() {
+        let bit = (word_at(form, bytes, analog, i) >> (i % 16)) % 2 == 1;
+        columns[i].put(row, bit);
     }
 }
 
-/// Reads a record: its front, and its values into `analog` and `digital`.
+/// Reads the record with which the bytes begin: its front, and its values into a row of the columns.
 pub fn read_binary(
-    bytes: &[u8],
-    selected: &[bool],
+    channels: &Channels,
     before: Option<u32>,
-    analog: &mut [i32],
-    digital: &mut [bool],
+    bytes: &[u8],
+    columns: &mut Columns,
+    row: usize,
 ) -> Result<Head, Fault>
-    requires few { (length selected.now ≤ 256) × (length digital.old ≤ 256) }
-    requires same { length analog.old ≡ length selected.now }
-    requires whole { size_of_record (length selected.now) (length digital.old) ≤ length bytes.now }
-    ensures values { IfOk result (λ h. IsBinary (length selected.now) (length digital.old) bytes.now (headed h analog.new digital.new) × Follows before h.number
-        × IsPresent forms.Binary selected.now (headed h analog.new digital.new)) }
-    ensures fault { IfErr result (λ f. WholeFault selected.now before bytes.now f.field f.kind) }
+    requires row { HasRow channels.now row columns.old }
+    requires whole { size_of_record channels.now.form (length channels.now.selected.items) channels.now.digital
+        ≤ length bytes.now }
+    ensures changed { ChangesRow row columns.old columns.new }
+    ensures values { IfOk result (λ h.
+        IsBinary channels.now.form (length channels.now.selected.items) channels.now.digital bytes.now
+        (headed h row columns.new)
+        × Follows before h.number
+        × IsPresent channels.now.form channels.now.selected.items (headed h row columns.new)) }
+    ensures fault { IfErr result
+        (λ f. WholeFault channels.now.form channels.now.selected.items before bytes.now f.field f.kind) }
 {
     let number = number_at(bytes);
     if !follows(before, number) {
@@ -125,17 +172,21 @@ pub fn read_binary(
             kind: Kind::Order,
         });
     }
-    match read_values(bytes, selected, analog) {
-        Ok(()) => {
-            read_bits(bytes, selected.len(), digital);
-            Ok(Head {
-                number,
-                stamp: Some(u64::from(stamp_at(bytes))),
-            })
-        }
-        Err(channel) => Err(Fault {
+    if let Err(channel) = read_values(channels, bytes, &mut columns.analog, row) {
+        return Err(Fault {
             field: channel as u32 + 3,
             kind: Kind::Missing,
-        }),
+        });
     }
+    read_bits(
+        channels.form,
+        bytes,
+        channels.selected.len(),
+        &mut columns.digital,
+        row,
+    );
+    Ok(Head {
+        number,
+        stamp: Some(u64::from(stamp_at(bytes))),
+    })
 }

@@ -43,7 +43,8 @@ fn whole_up_to(field: &[u8], most: u64) -> Result<u64, Kind>
 /// The sample number, which follows the one before.
 #[tactic(auto, unfolding(crate::specs::SampleFields::Refuses))]
 pub fn sample_number(field: &[u8], before: Option<u32>) -> Result<u32, Kind>
-    ensures { MatchResult result (λ n. IsNumber field.now n × Follows before n) (λ kind. Refuses (Number before) field.now kind) }
+    ensures { MatchResult result (λ n. IsNumber field.now n × Follows before n)
+        (λ kind. Refuses (Number before) field.now kind) }
 {
     let number = match whole_up_to(field, 4_294_967_295) {
         Ok(value) => value as u32,
@@ -85,7 +86,8 @@ fn sample(field: &[u8]) -> Result<i32, Kind>
 /// The analog value, which may not be missing in a selected channel.
 #[tactic(auto, unfolding(crate::specs::SampleFields::Refuses))]
 pub fn analog_value(field: &[u8], selected: bool) -> Result<i32, Kind>
-    ensures { MatchResult result (λ z. IsSample field.now z × IsThere selected z) (λ kind. Refuses (Analog selected) field.now kind) }
+    ensures { MatchResult result (λ z. IsSample field.now z × IsThere selected z)
+        (λ kind. Refuses (Analog selected) field.now kind) }
 {
     match sample(field) {
         Ok(value) if selected && value == MISSING => Err(Kind::Missing),

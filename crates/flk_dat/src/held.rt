@@ -1,65 +1,44 @@
 //! Records whose first bytes may have come in earlier pieces.
 
-ghost use Rattle.std.specs.Prelude.{◌≡◌, ◌+◌, ◌<◌, ◌≤◌, ◌++◌, [], length, OnOk, MatchResult};
-ghost use Rattle.flk_text.specs.Lines.{without_cr};
+ghost use Rattle.std.specs.Prelude.{◌≡◌, ◌≢◌, ◌+◌, ◌<◌, ◌++◌, [], length, OnOk, MatchResult};
 ghost use Rattle.flk_cfg.specs.declared.config.Form.TheVariants as forms;
-ghost use Rattle.flk_dat.specs.AsciiRecords.{IsLine, LineFault};
-ghost use Rattle.flk_dat.specs.BinaryRecords.{IsBinary, WholeFault, record_size};
-ghost use Rattle.flk_dat.specs.Heads.{Gains};
+ghost use Rattle.flk_dat.specs.BinaryRecords.{record_size};
+ghost use Rattle.flk_dat.specs.Heads.{Gains, FaultOf, HasColumns};
 
 use crate::block::Block;
+use crate::channels::Channels;
 use crate::kind::Fault;
 use crate::rest::Rest;
+use flk_cfg::Form;
 
-/// Reads the line that is what was held and then these bytes, without its end but for a CR, and puts its record at the end of the
-/// block. It answers the record's number.
-pub fn read_held_line(
+/// Reads the record that is what was held and then these bytes, and puts it at the end of the block. It answers the
+/// record's number. The bytes are up to the end of a line, or of a binary record.
+pub fn read_held(
     out: &mut Block,
     rest: &mut Rest,
-    bytes: &[u8],
-    selected: &[bool],
+    channels: &Channels,
     before: Option<u32>,
+    bytes: &[u8],
 ) -> Result<u32, Fault>
     requires room { length out.old.records < out.old.room }
-    requires analog { out.old.analog ≡ length selected.now }
-    requires few { (length selected.now ≤ 256) × (out.old.digital ≤ 256) }
+    requires columns { HasColumns channels.now out.old }
+    requires whole { channels.now.form ≢ forms.Ascii
+        → length rest.old + length bytes.now
+        ≡ record_size channels.now.form (length channels.now.selected.items) channels.now.digital }
     ensures cleared { OnOk result (rest.new ≡ []) }
-    ensures line { MatchResult result
-        (Gains (IsLine (length selected.now) out.old.digital (without_cr (rest.old ++ bytes.now))) forms.Ascii selected.now before out.old out.new)
-        (λ f. (out.new ≡ out.old) × LineFault selected.now out.old.digital before (without_cr (rest.old ++ bytes.now)) f.field f.kind) }
+    ensures whole_cleared { channels.now.form ≢ forms.Ascii → rest.new ≡ [] }
+    ensures record_read { MatchResult result (Gains channels.now before (rest.old ++ bytes.now) out.old out.new)
+        (λ f. (out.new ≡ out.old)
+        × FaultOf channels.now.form channels.now before (rest.old ++ bytes.now) f.field f.kind) }
 {
     if rest.as_slice().is_empty() {
-        return out.read_line(bytes, selected, before);
+        return out.read(channels, before, bytes);
     }
-    rest.hold_line(bytes)?;
-    let number = out.read_line(rest.as_slice(), selected, before);
-    rest.clear();
-    number
-}
-
-/// Reads the BINARY record that is what was held and then these bytes, and puts it at the end of the block. It answers the record's
-/// number.
-pub fn read_held_record(
-    out: &mut Block,
-    rest: &mut Rest,
-    bytes: &[u8],
-    selected: &[bool],
-    before: Option<u32>,
-) -> Result<u32, Fault>
-    requires room { length out.old.records < out.old.room }
-    requires analog { out.old.analog ≡ length selected.now }
-    requires few { (length selected.now ≤ 256) × (out.old.digital ≤ 256) }
-    requires whole { length rest.old + length bytes.now ≡ record_size (length selected.now) out.old.digital }
-    ensures cleared { rest.new ≡ [] }
-    ensures record_read { MatchResult result
-        (Gains (IsBinary (length selected.now) out.old.digital (rest.old ++ bytes.now)) forms.Binary selected.now before out.old out.new)
-        (λ f. (out.new ≡ out.old) × WholeFault selected.now before (rest.old ++ bytes.now) f.field f.kind) }
-{
-    if rest.as_slice().is_empty() {
-        return out.read_binary(bytes, selected, before);
+    match channels.form {
+        Form::Ascii => rest.hold_line(bytes)?,
+        Form::Binary => rest.hold(bytes),
     }
-    rest.hold(bytes);
-    let number = out.read_binary(rest.as_slice(), selected, before);
+    let number = out.read(channels, before, rest.as_slice());
     rest.clear();
     number
 }

@@ -1,7 +1,7 @@
 //! The kinds of a fault of a data file, and where the fault lies.
 
 ghost use Rattle.std.specs.Prelude.{◌≡◌};
-ghost use Rattle.flk_dat.specs.Kinds.{kind_number};
+ghost use Rattle.flk_dat.specs.Kinds.{data_kind_number};
 
 use thiserror::Error;
 
@@ -29,7 +29,7 @@ pub enum Kind {
 impl Kind {
     /// The number that is printed for the kind, from 1 to 8.
     pub fn number(self) -> u8
-        ensures { result ≡ kind_number self }
+        ensures { result ≡ data_kind_number self }
     {
         match self {
             Kind::Fields => 1,
@@ -44,8 +44,8 @@ impl Kind {
     }
 }
 
-/// The first fault of a data file: its record and its field, both counted from 1, and the number of its kind ([`Kind::number`]). The
-/// field is 0 where the record as a whole is at fault.
+/// The first fault of a data file: its record and its field, both counted from 1, and the number of its kind
+/// ([`Kind::number`]). The field is 0 where the record as a whole is at fault.
 #[derive(Clone, Copy, Debug, PartialEq, Eq, Error)]
 #[error("data fault")]
 pub struct DatFault {

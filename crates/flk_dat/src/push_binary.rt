@@ -4,6 +4,7 @@ ghost use Rattle.std.specs.Prelude.{◌≡◌, ◌+◌, ◌*◌, ◌/◌, ◌<�
 ghost use Rattle.std.specs.List.{flat_map, range_with_len};
 ghost use Rattle.byteorder.specs.Endian.{little_bytes};
 ghost use Rattle.flk_dat.specs.Records.{record_at, HasWidth};
+ghost use Rattle.flk_cfg.specs.declared.config.Form.TheVariants.{Binary};
 ghost use Rattle.flk_dat.specs.BinaryRecords.{record_size as size_of_record};
 ghost use Rattle.flk_dat.specs.Written.{IsWordStamp, IsBinaryRecord, stamp_number, value_bytes, bits_number, word_bytes, written_binary};
 
@@ -77,7 +78,8 @@ fn word(block: &Block, row: usize, first: usize, count: usize) -> u16
 fn push_values(out: &mut Vec<u8>, block: &Block, row: usize, analog: usize)
     requires few { analog ≤ 256 }
     requires row { row < length block.now.records }
-    requires width { (analog ≡ block.now.analog) × HasWidth block.now.analog block.now.digital (record_at block.now.records row) }
+    requires width { (analog ≡ block.now.analog)
+        × HasWidth block.now.analog block.now.digital (record_at block.now.records row) }
     requires sets { IsBinaryRecord (record_at block.now.records row) }
     requires room { vec_len out.old + 2 * analog ≤ vec_capacity out.old }
     ensures bytes { out.new.items ≡ out.old.items ++ flat_map value_bytes (record_at block.now.records row).analog }
@@ -93,9 +95,11 @@ fn push_values(out: &mut Vec<u8>, block: &Block, row: usize, analog: usize)
 fn push_words(out: &mut Vec<u8>, block: &Block, row: usize, digital: usize)
     requires few { digital ≤ 256 }
     requires row { row < length block.now.records }
-    requires width { (digital ≡ block.now.digital) × HasWidth block.now.analog block.now.digital (record_at block.now.records row) }
+    requires width { (digital ≡ block.now.digital)
+        × HasWidth block.now.analog block.now.digital (record_at block.now.records row) }
     requires room { vec_len out.old + 2 * ((digital + 15) / 16) ≤ vec_capacity out.old }
-    ensures bytes { out.new.items ≡ out.old.items ++ flat_map (word_bytes (record_at block.now.records row).digital) (range_with_len 0 ((digital + 15) / 16)) }
+    ensures bytes { out.new.items ≡ out.old.items
+        ++ flat_map (word_bytes (record_at block.now.records row).digital) (range_with_len 0 ((digital + 15) / 16)) }
 {
     for group in 0..(digital + 15) / WORD_CHANNELS {
         let first = WORD_CHANNELS * group;
@@ -112,7 +116,7 @@ pub fn push_binary(out: &mut Vec<u8>, block: &Block, row: usize, analog: usize, 
     requires row { row < length block.now.records }
     requires width { (analog ≡ block.now.analog) × (digital ≡ block.now.digital) }
     requires sets { IsBinaryRecord (record_at block.now.records row) }
-    requires room { vec_len out.old + size_of_record analog digital ≤ vec_capacity out.old }
+    requires room { vec_len out.old + size_of_record Binary analog digital ≤ vec_capacity out.old }
     ensures { out.new.items ≡ out.old.items ++ written_binary (record_at block.now.records row) }
 {
     push_u32(out, block.number(row));

@@ -59,7 +59,8 @@ fn push_bit(out: &mut Vec<u8>, bit: bool)
 fn push_values(out: &mut Vec<u8>, block: &Block, row: usize, analog: usize)
     requires few { analog ≤ 256 }
     requires row { row < length block.now.records }
-    requires width { (analog ≡ block.now.analog) × HasWidth block.now.analog block.now.digital (record_at block.now.records row) }
+    requires width { (analog ≡ block.now.analog)
+        × HasWidth block.now.analog block.now.digital (record_at block.now.records row) }
     requires sets { IsAsciiRecord (record_at block.now.records row) }
     requires room { vec_len out.old + 17 * analog ≤ vec_capacity out.old }
     ensures text { out.new.items ≡ out.old.items ++ flat_map value_field (record_at block.now.records row).analog }
@@ -75,7 +76,8 @@ fn push_values(out: &mut Vec<u8>, block: &Block, row: usize, analog: usize)
 fn push_bits(out: &mut Vec<u8>, block: &Block, row: usize, digital: usize)
     requires few { digital ≤ 256 }
     requires row { row < length block.now.records }
-    requires width { (digital ≡ block.now.digital) × HasWidth block.now.analog block.now.digital (record_at block.now.records row) }
+    requires width { (digital ≡ block.now.digital)
+        × HasWidth block.now.analog block.now.digital (record_at block.now.records row) }
     requires room { vec_len out.old + 17 * digital ≤ vec_capacity out.old }
     ensures text { out.new.items ≡ out.old.items ++ flat_map bit_field (record_at block.now.records row).digital }
     ensures len { vec_len out.new ≤ vec_len out.old + 17 * digital }

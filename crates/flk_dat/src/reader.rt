@@ -1,19 +1,18 @@
 //! A reader of a data file that comes in pieces.
 
-ghost use Rattle.std.specs.Prelude.{◌≡◌, ℕ, ◌+◌, ◌-◌, ◌<◌, ◌≤◌, ◌++◌, [], List, length, take, IfOk, OnOk, IfErr, OnErr, MatchResult, None, Some, Err};
+ghost use Rattle.std.specs.Prelude.{◌≡◌, ◌≢◌, ℕ, ◌+◌, ◌-◌, ◌<◌, ◌≤◌, ◌++◌, [], List, length, take, IfOk, OnOk, IfErr, OnErr, MatchResult, None, Some, Err};
 ghost use Rattle.flk_cfg.specs.Valid.{IsValid};
 ghost use Rattle.flk_dat.specs.Records.{DataRecord, Rows, IsBlockFor, layout_of};
 ghost use Rattle.flk_dat.specs.DataFile.{IsAccepted};
 ghost use Rattle.flk_dat.specs.BinaryRecords.{record_size};
-ghost use Rattle.flk_dat.specs.Kinds.{kind_number};
+ghost use Rattle.flk_dat.specs.Kinds.{data_kind_number};
 ghost use Rattle.flk_dat.specs.Streams.{HasFault, EndsInFault, EndsRecord, added, Grows};
 ghost use Rattle.flk_dat.specs.declared.kind.DatFault.{DatFault as FaultView};
-ghost use Rattle.flk_cfg.specs.declared.config.Form.TheVariants.{Binary};
 ghost use Rattle.flk_cfg.specs.declared.config.Form.TheVariants as forms;
 
 use crate::block::Block;
 use crate::channels::Channels;
-use crate::held::{read_held_line, read_held_record};
+use crate::held::read_held;
 use crate::kind::{DatFault, Fault, Kind};
 use crate::line::{are_spaces, line_end};
 use crate::rest::Rest;
@@ -36,7 +35,6 @@ const LONG: Fault = Fault {
 /// A reader of a data file, which takes the file's bytes in pieces and puts their records into blocks.
 #[derive(Drop)]
 pub struct Reader {
-    form: Form,
     records: u32,
     channels: Channels,
     given: u32,
@@ -46,26 +44,27 @@ pub struct Reader {
     fault: Option<DatFault>,
     ghost some: { 0 < records },
     ghost within: { given ≤ records },
-    ghost part: { form ≡ Binary → length rest < record_size (length channels.selected.items) channels.digital },
+    ghost part: { channels.form ≢ forms.Ascii
+        → length rest < record_size channels.form (length channels.selected.items) channels.digital },
 }
 
 impl Reader {
-    ghost use Rattle.flk_dat.specs.States.{layout, kept_fault, Stands, Fits};
+    ghost use Rattle.flk_dat.specs.States.{layout, kept_fault, Stands, FitsBlock};
     ghost use Rattle.flk_dat.specs.Takings.{Takes, TakesAll, Stops, Gives, Ends, Falls};
 
-    /// A reader of the data of this configuration that has taken nothing. `selected` has the numbers of the analog channels, from 1,
-    /// in which a missing value is refused; a number of no channel selects nothing.
+    /// A reader of the data of this configuration that has taken nothing. `selected` has the numbers of the analog
+    /// channels, from 1, in which a missing value is refused; a number of no channel selects nothing.
     pub fn new(alloc: Global, c: &Config, selected: &[u16]) -> Result<Reader, AllocError>
         requires { IsValid c.now }
         ensures layout { IfOk result (λ r. layout r ≡ layout_of c.now selected.now) }
         ensures stands { IfOk result (λ r. Stands r [] []) }
-        ensures fits { IfOk result (λ r. (b : Rows) → IsBlockFor c.now b → Fits r b) }
+        ensures fits { IfOk result (λ r. (b : Rows) → IsBlockFor c.now b → FitsBlock r b) }
     {
         Ok(Reader {
-            form: c.form,
             records: c.endsamp,
             channels: Channels::new(
                 alloc,
+                c.form,
                 c.analog.as_slice().len(),
                 c.digital.as_slice().len(),
                 selected,
@@ -78,25 +77,28 @@ impl Reader {
         })
     }
 
-    /// Takes bytes from the front of the piece, and puts each record that is whole at the end of `out`. It answers how many bytes it
-    /// took: the whole piece unless `out` becomes full, and then up to the end of the last record that fits; nothing where `out` is full
-    /// already. A byte 1A before which the last ASCII record's line ends is taken with that record.
+    /// Takes bytes from the front of the piece, and puts each record that is whole at the end of `out`. It answers how
+    /// many bytes it took: the whole piece unless `out` becomes full, and then up to the end of the last record that
+    /// fits; nothing where `out` is full already. A byte 1A before which the last ASCII record's line ends is taken
+    /// with that record.
     ///
-    /// A fault is the first fault of the bytes taken whatever follows them; the records before it are in `out`, which has room for more. From
-    /// then on the reader answers that fault and appends nothing. It takes no memory.
+    /// A fault is the first fault of the bytes taken whatever follows them; the records before it are in `out`, which
+    /// has room for more. From then on the reader answers that fault and appends nothing. It takes no memory.
     pub fn feed(&mut self, piece: &[u8], out: &mut Block) -> Result<usize, DatFault>
-        requires { Fits self.old out.old }
+        requires { FitsBlock self.old out.old }
         ensures layout { layout self.new ≡ layout self.old }
         ensures grows { Grows out.old out.new }
-        ensures fits { Fits self.new out.new }
+        ensures fits { FitsBlock self.new out.new }
         ensures within { IfOk result (λ n. n ≤ length piece.now) }
         ensures progress { IfOk result (λ n. 0 < length piece.now → length out.old.records < out.old.room → 0 < n) }
         ensures whole { IfOk result (λ n. length out.new.records < out.new.room → n ≡ length piece.now) }
         ensures nothing { out.old.room ≤ length out.old.records → IfOk result (λ n. n ≡ 0) }
         ensures stands { (taken : List ℕ) (given : List DataRecord) → Stands self.old taken given
             → IfOk result (λ n. Stands self.new (taken ++ take n piece.now) (given ++ added out.old out.new)) }
-        ensures full { (taken : List ℕ) (given : List DataRecord) → Stands self.old taken given → length out.old.records < out.old.room → out.new.room ≤ length out.new.records
-            → IfOk result (λ n. EndsRecord (layout self.old) (length (given ++ added out.old out.new) - 1) (taken ++ take n piece.now)) }
+        ensures full { (taken : List ℕ) (given : List DataRecord) → Stands self.old taken given
+            → length out.old.records < out.old.room → out.new.room ≤ length out.new.records
+            → IfOk result (λ n.
+            EndsRecord (layout self.old) (length (given ++ added out.old out.new) - 1) (taken ++ take n piece.now)) }
         ensures fault { (taken : List ℕ) (given : List DataRecord) → Stands self.old taken given
             → IfErr result (λ f. HasFault (layout self.old) (taken ++ piece.now) (given ++ added out.old out.new) f) }
         ensures room { kept_fault self.old ≡ None → OnErr result (length out.new.records < out.new.room) }
@@ -112,15 +114,16 @@ impl Reader {
         }
     }
 
-    /// Says that the input has ended. A last ASCII record that has no line end is put into `out`, which needs room for one.
+    /// Says that the input has ended. A last ASCII record that has no line end is put into `out`, which needs room for
+    /// one.
     ///
     /// The fault is the first fault of all bytes taken. It takes no memory.
     pub fn finish(&mut self, out: &mut Block) -> Result<(), DatFault>
-        requires fits { Fits self.old out.old }
+        requires fits { FitsBlock self.old out.old }
         requires room { length out.old.records < out.old.room }
         ensures layout { layout self.new ≡ layout self.old }
         ensures grows { Grows out.old out.new }
-        ensures fits { Fits self.new out.new }
+        ensures fits { FitsBlock self.new out.new }
         ensures accepted { (taken : List ℕ) (given : List DataRecord) → Stands self.old taken given
             → OnOk result (IsAccepted (layout self.old) taken (given ++ added out.old out.new)) }
         ensures fault { (taken : List ℕ) (given : List DataRecord) → Stands self.old taken given
@@ -139,7 +142,8 @@ impl Reader {
 
     /// Keeps the fault, with the number of the record that is due.
     fn fail(&mut self, fault: Fault) -> DatFault
-        ensures is { result ≡ record { row = self.old.given + 1; field = fault.field; kind = kind_number fault.kind } }
+        ensures is { result
+            ≡ record { row = self.old.given + 1; field = fault.field; kind = data_kind_number fault.kind } }
         ensures keeps { kept_fault self.new ≡ Some result }
         ensures layout { layout self.new ≡ layout self.old }
     {
@@ -154,8 +158,9 @@ impl Reader {
 
     /// Takes bytes up to the end of the piece, or to the end of the last record that fits.
     fn take(&mut self, piece: &[u8], out: &mut Block) -> Result<usize, Fault>
-        requires { Fits self.old out.old }
-        ensures taken { MatchResult result (λ n. TakesAll self.old self.new out.old out.new piece.now n) (λ f. Stops self.old self.new out.old out.new piece.now f) }
+        requires { FitsBlock self.old out.old }
+        ensures taken { MatchResult result (λ n. TakesAll self.old self.new out.old out.new piece.now n)
+            (λ f. Stops self.old self.new out.old out.new piece.now f) }
         ensures room { OnErr result (length out.new.records < out.new.room) }
     {
         let mut at = 0;
@@ -168,15 +173,16 @@ impl Reader {
     /// Takes bytes up to the end of the record that is due, or all bytes.
     fn step(&mut self, piece: &[u8], out: &mut Block) -> Result<usize, Fault>
         requires some { 0 < length piece.now }
-        requires fits { Fits self.old out.old }
+        requires fits { FitsBlock self.old out.old }
         requires room { length out.old.records < out.old.room }
-        ensures taken { MatchResult result (λ n. Takes self.old self.new out.old out.new piece.now n) (λ f. Stops self.old self.new out.old out.new piece.now f) }
+        ensures taken { MatchResult result (λ n. Takes self.old self.new out.old out.new piece.now n)
+            (λ f. Stops self.old self.new out.old out.new piece.now f) }
         ensures nothing { OnErr result (out.new ≡ out.old) }
     {
         if self.given == self.records {
             return self.take_tail(piece);
         }
-        match self.form {
+        match self.channels.form {
             Form::Ascii => self.take_line(piece, out),
             Form::Binary => self.take_binary(piece, out),
         }
@@ -186,9 +192,10 @@ impl Reader {
     fn take_tail(&mut self, piece: &[u8]) -> Result<usize, Fault>
         requires some { 0 < length piece.now }
         requires all { self.old.given ≡ self.old.records }
-        ensures { (b : Rows) → MatchResult result (λ n. Takes self.old self.new b b piece.now n) (λ f. Stops self.old self.new b b piece.now f) }
+        ensures { (b : Rows) → MatchResult result (λ n. Takes self.old self.new b b piece.now n)
+            (λ f. Stops self.old self.new b b piece.now f) }
     {
-        match self.form {
+        match self.channels.form {
             Form::Ascii => match self.tail.with(piece) {
                 Some(tail) => {
                     self.tail = tail;
@@ -203,11 +210,12 @@ impl Reader {
     /// Takes bytes of an ASCII line.
     fn take_line(&mut self, piece: &[u8], out: &mut Block) -> Result<usize, Fault>
         requires some { 0 < length piece.now }
-        requires form { self.old.form ≡ forms.Ascii }
+        requires form { self.old.channels.form ≡ forms.Ascii }
         requires due { self.old.given < self.old.records }
-        requires fits { Fits self.old out.old }
+        requires fits { FitsBlock self.old out.old }
         requires room { length out.old.records < out.old.room }
-        ensures taken { MatchResult result (λ n. Takes self.old self.new out.old out.new piece.now n) (λ f. Stops self.old self.new out.old out.new piece.now f) }
+        ensures taken { MatchResult result (λ n. Takes self.old self.new out.old out.new piece.now n)
+            (λ f. Stops self.old self.new out.old out.new piece.now f) }
         ensures nothing { OnErr result (out.new ≡ out.old) }
     {
         let end = line_end(piece, self.given + 1 == self.records);
@@ -217,12 +225,12 @@ impl Reader {
                 Err(fault) => Err(fault),
             };
         }
-        match read_held_line(
+        match read_held(
             out,
             &mut self.rest,
-            &piece[..end],
-            &self.channels.selected,
+            &self.channels,
             self.before,
+            &piece[..end],
         ) {
             Ok(number) => {
                 self.count(number, Tail::after(piece[end]));
@@ -232,14 +240,15 @@ impl Reader {
         }
     }
 
-    /// Takes bytes of a BINARY record.
+    /// Takes bytes of a binary record.
     fn take_binary(&mut self, piece: &[u8], out: &mut Block) -> Result<usize, Fault>
         requires some { 0 < length piece.now }
-        requires form { self.old.form ≡ forms.Binary }
+        requires form { self.old.channels.form ≢ forms.Ascii }
         requires due { self.old.given < self.old.records }
-        requires fits { Fits self.old out.old }
+        requires fits { FitsBlock self.old out.old }
         requires room { length out.old.records < out.old.room }
-        ensures taken { MatchResult result (λ n. Takes self.old self.new out.old out.new piece.now n) (λ f. Stops self.old self.new out.old out.new piece.now f) }
+        ensures taken { MatchResult result (λ n. Takes self.old self.new out.old out.new piece.now n)
+            (λ f. Stops self.old self.new out.old out.new piece.now f) }
         ensures nothing { OnErr result (out.new ≡ out.old) }
     {
         let due = self.channels.size - self.rest.as_slice().len();
@@ -247,12 +256,12 @@ impl Reader {
             self.rest.hold(piece);
             return Ok(piece.len());
         }
-        match read_held_record(
+        match read_held(
             out,
             &mut self.rest,
-            &piece[..due],
-            &self.channels.selected,
+            &self.channels,
             self.before,
+            &piece[..due],
         ) {
             Ok(number) => {
                 self.count(number, Tail::new());
@@ -274,14 +283,15 @@ impl Reader {
 
     /// Reads what is left at the end of the input.
     fn end(&mut self, out: &mut Block) -> Result<(), Fault>
-        requires fits { Fits self.old out.old }
+        requires fits { FitsBlock self.old out.old }
         requires room { length out.old.records < out.old.room }
-        ensures { MatchResult result (λ _. Ends self.old self.new out.old out.new) (λ f. Falls self.old self.new out.old out.new f) }
+        ensures { MatchResult result (λ _. Ends self.old self.new out.old out.new)
+            (λ f. Falls self.old self.new out.old out.new f) }
     {
         if self.given == self.records {
             return Ok(());
         }
-        match self.form {
+        match self.channels.form {
             Form::Ascii => self.end_line(out),
             Form::Binary => Err(SHORT),
         }
@@ -289,16 +299,17 @@ impl Reader {
 
     /// Reads a line that has no end.
     fn end_line(&mut self, out: &mut Block) -> Result<(), Fault>
-        requires form { self.old.form ≡ forms.Ascii }
+        requires form { self.old.channels.form ≡ forms.Ascii }
         requires due { self.old.given < self.old.records }
-        requires fits { Fits self.old out.old }
+        requires fits { FitsBlock self.old out.old }
         requires room { length out.old.records < out.old.room }
-        ensures { MatchResult result (λ _. Ends self.old self.new out.old out.new) (λ f. Falls self.old self.new out.old out.new f) }
+        ensures { MatchResult result (λ _. Ends self.old self.new out.old out.new)
+            (λ f. Falls self.old self.new out.old out.new f) }
     {
         if are_spaces(self.rest.as_slice()) {
             return Err(SHORT);
         }
-        match out.read_line(self.rest.as_slice(), &self.channels.selected, self.before) {
+        match out.read(&self.channels, self.before, self.rest.as_slice()) {
             Ok(number) => {
                 self.rest.clear();
                 self.count(number, Tail::new());

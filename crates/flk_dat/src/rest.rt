@@ -12,8 +12,8 @@ use std::marker::Model;
 /// The most bytes that are held: a line of the greatest length and a CR behind it. A BINARY record is shorter.
 const ROOM: usize = LONGEST_LINE + 1;
 
-/// The bytes of a record that isn't whole yet. Contracts see it as the list of these bytes. It has room for any record's bytes from its
-/// making on.
+/// The bytes of a record that isn't whole yet. Contracts see it as the list of these bytes. It has room for any
+/// record's bytes from its making on.
 #[derive(Drop)]
 pub struct Rest {
     bytes: Vec<u8>,

@@ -41,9 +41,11 @@ impl Tail {
 
     /// The tail with more bytes at its end, or None where that is no tail or is too long.
     pub fn with(self, piece: &[u8]) -> Option<Tail>
-        ensures { (rest : List ℕ) → self.bytes ≡ length rest → self.marks ≡ count_by (is_byte 26) rest → MayFollow forms.Ascii rest
+        ensures { (rest : List ℕ) → self.bytes ≡ length rest → self.marks ≡ count_by (is_byte 26) rest
+            → MayFollow forms.Ascii rest
             → MatchOption result (MayFollow forms.Ascii (rest ++ piece.now) → ⊥)
-            (λ t. (t.bytes ≡ length (rest ++ piece.now)) × (t.marks ≡ count_by (is_byte 26) (rest ++ piece.now)) × MayFollow forms.Ascii (rest ++ piece.now)) }
+            (λ t. (t.bytes ≡ length (rest ++ piece.now)) × (t.marks ≡ count_by (is_byte 26) (rest ++ piece.now))
+            × MayFollow forms.Ascii (rest ++ piece.now)) }
     {
         let marks = tail_marks(piece)?;
         if self.bytes > LONGEST_TAIL

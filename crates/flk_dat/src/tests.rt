@@ -1,5 +1,5 @@
 ghost use Rattle.std.specs.Prelude.{◌≡◌, ◌<◌, ◌^◌, pos, negsuc, ◌≤ℤ◌};
-ghost use Rattle.flk_dat.specs.States.{Fits};
+ghost use Rattle.flk_dat.specs.States.{FitsBlock};
 
 use crate::{Block, DatFault, Reader, write_record};
 use flk_cfg::{read_cfg, valid_cfg};
@@ -22,7 +22,7 @@ fn joined(alloc: Global, parts: &[&[u8]]) -> Result<Vec<u8>, AllocError> {
 
 /// What two pieces of data and their end are answered.
 fn read(reader: &mut Reader, out: &mut Block, first: &[u8], second: &[u8]) -> Result<(), DatFault>
-    requires { Fits reader.old out.old }
+    requires { FitsBlock reader.old out.old }
     ensures { out.new.analog ≡ out.old.analog }
 {
     reader.feed(first, out)?;
@@ -33,8 +33,8 @@ fn read(reader: &mut Reader, out: &mut Block, first: &[u8], second: &[u8]) -> Re
     Ok(())
 }
 
-/// What two pieces of data are answered under a configuration with this line of samples and this form: how many records there are and
-/// the value of the last, and the fault's numbers, or zeros where there is none.
+/// What two pieces of data are answered under a configuration with this line of samples and this form: how many records
+/// there are and the value of the last, and the fault's numbers, or zeros where there is none.
 fn answer_to(
     alloc: Global,
     sampling: &[u8],

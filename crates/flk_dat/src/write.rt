@@ -12,12 +12,13 @@ use crate::push_line::{FIELD_ROOM, push_line};
 use flk_cfg::{Config, Form};
 use std::alloc::AllocError;
 
-/// Appends the canonical bytes of one record of a block, which was made for the configuration. The record's time stamp and values are
-/// in the sets of the configuration's form: a time stamp of 0 to 9999999999 or none and analog values of -99999 to 99999 in ASCII, and
-/// a time stamp of 32 bits and analog values of 16 in BINARY. Where memory is short `out` stays as it was.
+/// Appends the canonical bytes of one record of a block, which was made for the configuration. The record's time stamp
+/// and values are in the sets of the configuration's form: a time stamp of 0 to 9999999999 or none and analog values of
+/// -99999 to 99999 in ASCII, and a time stamp of 32 bits and analog values of 16 in BINARY. Where memory is short `out`
+/// stays as it was.
 ///
-/// An ASCII record is a line with CR LF behind it, of numbers without plus sign, leading zeros and spaces, and with an empty time stamp
-/// where there is none. In a BINARY record unused bits are zero.
+/// An ASCII record is a line with CR LF behind it, of numbers without plus sign, leading zeros and spaces, and with an
+/// empty time stamp where there is none. In a BINARY record unused bits are zero.
 #[tactic(auto, unfolding(crate::specs::Written::written_record))]
 pub fn write_record(
     out: &mut Vec<u8>,
@@ -29,7 +30,8 @@ pub fn write_record(
     requires made { IsBlockFor c.now block.now }
     requires row { row < length block.now.records }
     requires sets { IsWritable c.now.form (record_at block.now.records row) }
-    ensures ok { OnOk result (out.new.items ≡ out.old.items ++ written_record c.now.form (record_at block.now.records row)) }
+    ensures ok { OnOk result (out.new.items ≡ out.old.items
+        ++ written_record c.now.form (record_at block.now.records row)) }
     ensures err { OnErr result (out.new.items ≡ out.old.items) }
 {
     let analog = c.analog.as_slice().len();
@@ -40,7 +42,7 @@ pub fn write_record(
             push_line(out, block, row, analog, digital);
         }
         Form::Binary => {
-            out.reserve(record_size(analog, digital))?;
+            out.reserve(record_size(c.form, analog, digital))?;
             push_binary(out, block, row, analog, digital);
         }
     }

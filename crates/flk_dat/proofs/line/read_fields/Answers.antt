@@ -6,6 +6,8 @@ use Rattle.flk_dat.specs.Records.{Follows}
 use Rattle.flk_dat.specs.SampleFields.{Analog, Digital, IsSample, IsNumber, IsStamp}
 use Rattle.flk_dat.specs.AsciiRecords.{column, field_total, IsFirstOut}
 use Rattle.flk_cfg.proofs.Steps.{err_exit}
+use Rattle.flk_dat.specs.Blocks.{row_in}
+use Rattle.flk_dat.proofs.ColumnLemmas.{row_length}
 use Rattle.flk_dat.proofs.RowLemmas.{number_in, stamp_in, analog_in, head_are_in, analog_are_in, fault_in_head, fault_in_analog, fault_in_digital, AreIn}
 use Rattle.flk_text.specs.Fields.{fields}
 use Rattle.flk_dat.specs.Heads.{head_column}
@@ -18,12 +20,12 @@ FaultOf selected before digital parts f = (i : ℕ) × (f.field ≡ i + 1) × Is
 pub returns-in_err-head-clause-fault : goal.returns-in_err-head-clause-fault
 returns-in_err-head-clause-fault c =
     let all = fields c.args.line.now in
-    let selected = c.args.selected.now in
-    let total = field_total (length selected) (length c.args.digital.now) in
+    let selected = c.args.channels.now.selected.items in
+    let total = field_total (length selected) (c.args.channels.now.digital) in
     let f = c.in_err-head.field-0.0 in
     let e = c.in_err-head.ensures.fault in
     let room : 2 ≤ total = omega arith in
-    err_exit c.from_residual.result (λ _. Unit {0}) (FaultOf selected c.args.before (length c.args.digital.now) all) f c.from_residual.ensures.1
+    err_exit c.from_residual.result (λ _. Unit {0}) (FaultOf selected c.args.before (c.args.channels.now.digital) all) f c.from_residual.ensures.1
     (e.0, e.1, fault_in_head selected c.args.before total all e.0 f.kind room (subst (λ (x : List (List ℕ)). IsFirstOut (head_column c.args.before) 2 x e.0 f.kind) c.new-fields.ensures e.2))
 
 -- the first two fields are in their sets
@@ -46,8 +48,8 @@ left_after n all left rest same is = is ∙ ap (drop n) same ∙ drop-drop n 2 a
 pub returns-in_err-read_analog-clause-fault : goal.returns-in_err-read_analog-clause-fault
 returns-in_err-read_analog-clause-fault c =
     let all = fields c.args.line.now in
-    let selected = c.args.selected.now in
-    let digital = length c.args.digital.now in
+    let selected = c.args.channels.now.selected.items in
+    let digital = c.args.channels.now.digital in
     let f = c.in_err-read_analog.field-0.0 in
     let e = c.in_err-read_analog.ensures.fault in
     let head = c.in_ok-head.head in
@@ -60,39 +62,39 @@ returns-in_err-read_analog-clause-fault c =
 pub returns-in_err-read_digital-clause-fault : goal.returns-in_err-read_digital-clause-fault
 returns-in_err-read_digital-clause-fault c =
     let all = fields c.args.line.now in
-    let selected = c.args.selected.now in
-    let digital = length c.args.digital.now in
+    let selected = c.args.channels.now.selected.items in
+    let digital = c.args.channels.now.digital in
     let f = c.in_err-read_digital.field-0.0 in
     let e = c.in_err-read_digital.ensures.fault in
     let head = c.in_ok-head.head in
     let left : c.read_head.new.fields ≡ drop 2 all = c.in_ok-head.ensures.left ∙ ap (drop 2) c.new-fields.ensures in
     let good = head_good selected c.args.before all c.new-fields.result head.number head.stamp c.new-fields.ensures c.in_ok-head.ensures.head in
-    let samples = analog_good selected all c.read_head.new.fields c.read_analog.new.values left c.in_ok-read_analog.ensures.samples in
+    let samples = analog_good selected all c.read_head.new.fields (row_in c.args.row (pos 0) c.read_analog.new.columns.items) left c.in_ok-read_analog.ensures.samples in
     let full : length selected ≤ length selected = omega arith in
     let front = analog_are_in selected c.args.before all (length selected) full good
-    (λ j lt. analog_in (get_or selected j false) (get_or all (2 + j) []) (get_or c.read_analog.new.values j (pos 0)) (samples j lt) (c.in_ok-read_analog.ensures.present j lt)) in
+    (λ j lt. analog_in (get_or selected j false) (get_or all (2 + j) []) (get_or (row_in c.args.row (pos 0) c.read_analog.new.columns.items) j (pos 0)) (samples j lt) (c.in_ok-read_analog.ensures.present j lt)) in
     let rest = left_after (length selected) all c.read_head.new.fields c.read_analog.new.fields left c.in_ok-read_analog.ensures.left in
     let place : f.field ≡ 2 + length selected + e.0 + 1 = omega (arith, e.1) in
     err_exit c.from_residual-in_err-read_digital.result (λ _. Unit {0}) (FaultOf selected c.args.before digital all) f c.from_residual-in_err-read_digital.ensures.1
-    (2 + length selected + e.0, place, fault_in_digital selected c.args.before digital all e.0 f.kind front (subst (λ (x : List (List ℕ)). IsFirstOut (λ j. Digital) digital x e.0 f.kind) rest e.2))
+    (2 + length selected + e.0, place, fault_in_digital selected c.args.before digital all e.0 f.kind front (subst (λ (x : List (List ℕ)). IsFirstOut (λ j. Digital) digital x e.0 f.kind) rest (subst (λ (n : ℕ). IsFirstOut (λ j. Digital) n c.read_analog.new.fields e.0 f.kind) c.requires.row.digital e.2)))
 
 pub returns-clause-row : goal.returns-clause-row
 returns-clause-row c =
     let all = fields c.args.line.now in
-    let selected = c.args.selected.now in
+    let selected = c.args.channels.now.selected.items in
     let head = c.in_ok-head.head in
     let h = c.in_ok-head.ensures.head in
     let left : c.read_head.new.fields ≡ drop 2 all = c.in_ok-head.ensures.left ∙ ap (drop 2) c.new-fields.ensures in
-    let samples = analog_good selected all c.read_head.new.fields c.read_analog.new.values left c.in_ok-read_analog.ensures.samples in
+    let samples = analog_good selected all c.read_head.new.fields (row_in c.args.row (pos 0) c.read_analog.new.columns.items) left c.in_ok-read_analog.ensures.samples in
     let rest = left_after (length selected) all c.read_head.new.fields c.read_analog.new.fields left c.in_ok-read_analog.ensures.left in (
       record {
         count = c.requires.count;
         number = subst (λ (x : List (List ℕ)). IsNumber (get_or x 0 []) head.number) c.new-fields.ensures h.0;
         stamp = subst (λ (x : List (List ℕ)). IsStamp (get_or x 1 []) head.stamp) c.new-fields.ensures h.2;
-        analog_count = omega (arith, c.requires.same, c.read_analog.auto.values);
+        analog_count = omega (arith, c.requires.row.analog, c.in_ok-read_analog.ensures.changed.count, row_length c.args.row (pos 0) c.read_analog.new.columns.items);
         analog_values = samples;
-        digital_count = omega (arith, c.read_digital.auto.values);
-        digital_values = λ i lt. subst (λ (f : List ℕ). IsBit f (get_or c.read_digital.new.values i false)) (ap (λ (x : List (List ℕ)). get_or x i []) rest ∙ get_or-drop (2 + length selected) all i []) (c.in_ok-read_digital.ensures.bits i lt);
+        digital_count = omega (arith, c.requires.row.digital, c.in_ok-read_digital.ensures.changed.count, row_length c.args.row false c.read_digital.new.columns.items);
+        digital_values = λ i lt. subst (λ (f : List ℕ). IsBit f (get_or (row_in c.args.row false c.read_digital.new.columns.items) i false)) (ap (λ (x : List (List ℕ)). get_or x i []) rest ∙ get_or-drop (2 + length selected) all i []) (c.in_ok-read_digital.ensures.bits i (omega (arith, lt, c.requires.row.digital)));
       },
       h.1,
       λ i chosen.

@@ -11,5 +11,10 @@ invariant_of-result c =
     record {
       analog_few = omega (arith, selected, c.requires.few);
       digital_few = omega (arith, c.requires.few);
-      size_is = c.record_size.ensures ∙ ap (λ (n : ℕ). record_size n c.args.digital) (sym selected);
+      size_is = c.record_size.ensures ∙ ap (λ (n : ℕ). record_size c.args.form n c.args.digital) (sym selected);
     }
+
+pub returns-clause-selected : goal.returns-clause-selected
+returns-clause-selected c =
+    let f : ℕ → Bool = λ k. is_among c.args.numbers.now (k + 1) in
+    (c.in_ok-flags.ensures, ap length c.in_ok-flags.ensures ∙ length-map-range_with_len f 0 c.args.analog)

@@ -1,11 +1,7 @@
-use Rattle.std.proofs.Common.{◌≡◌, ◌+◌, ◌-◌, ◌<◌, ◌≤◌, ℕ, Bool, List, [], take, ◌++◌, length, refl, sym, ap, subst, ◌∙◌, arith}
-use Rattle.flk_cfg.specs.declared.config.Form.TheVariants.{Binary}
-use Rattle.flk_dat.specs.Records.{Follows}
-use Rattle.flk_dat.specs.BinaryRecords.{IsBinary, WholeFault}
-use Rattle.flk_dat.specs.Heads.{Gains}
+use Rattle.std.proofs.Common.{◌≡◌, ◌+◌, ◌-◌, ◌<◌, ◌≤◌, ℕ, List, [], take, ◌++◌, length, refl, sym, ap, subst, ◌∙◌, arith}
 use Rattle.flk_dat.proofs.StateLemmas.{Given}
 use Rattle.flk_dat.proofs.TakingLemmas.{takes_held_at, takes_whole, stops_due, stops_same}
-use Rattle.flk_dat.proofs.BinarySteps.{size_of, record_whole, record_stops, record_held, record_given}
+use Rattle.flk_dat.proofs.BinarySteps.{size_of, writes_binary, fault_of_whole, record_whole, record_stops, record_held, record_given}
 use Rattle.flk_dat.proofs.reader.Reader.take_binary.Goals as goal
 
 pub returns-then-piece-due-clause-taken : goal.returns-then-piece-due-clause-taken
@@ -24,12 +20,12 @@ returns-in-Ok-clause-taken c =
     let n = old.channels.size - length c.as_slice.result.now in
     let due : n ≡ size_of old - length old.rest = ap (λ (k : ℕ). k - length c.as_slice.result.now) old.channels.size_is ∙ ap (λ (x : List ℕ). size_of old - length x) c.as_slice.ensures in
     let within : n ≤ length piece = omega (arith, c.if-piece-due.false) in
-    let gains = subst (λ (s : List Bool). Gains (IsBinary (length s) c.args.out.now.digital (old.rest ++ take n piece)) Binary s old.before c.args.out.now c.read_held_record.new.out c.in-Ok.number) c.deref.ensures.value c.in-Ok.ensures.record_read in
+    let gains = c.in-Ok.ensures.record_read in
     let r = gains.given in
-    let read = subst (λ (digital : ℕ). IsBinary (length old.channels.selected.items) digital (old.rest ++ take n piece) r) c.requires.fits.digital gains.read in
-    let given = record_given old _ c.count.new.self c.in-Ok.number c.new.result c.requires.form refl refl refl c.read_held_record.ensures.cleared c.count.ensures c.new.ensures in
-    takes_whole old c.count.new.self c.args.out.now c.read_held_record.new.out piece n [] r (subst (λ (k : ℕ). Given old c.count.new.self k []) (sym gains.number) given) c.requires.due gains.records
-    (record_whole old piece n r c.requires.form (old.part c.requires.form) due within read (subst (Follows old.before) (sym gains.number) gains.follows) gains.present)
+    let read = writes_binary old.channels.form old.channels (old.rest ++ take n piece) r c.requires.form gains.good.writes in
+    let given = record_given old _ c.count.new.self c.in-Ok.number c.new.result c.requires.form refl refl refl c.in-Ok.ensures.cleared c.count.ensures c.new.ensures in
+    takes_whole old c.count.new.self c.args.out.now c.read_held.new.out piece n [] r (subst (λ (k : ℕ). Given old c.count.new.self k []) (sym gains.number) given) c.requires.due gains.records
+    (record_whole old piece n r c.requires.form (old.part c.requires.form) due within read gains.good.follows gains.good.present)
 
 pub returns-in-Err-clause-taken : goal.returns-in-Err-clause-taken
 returns-in-Err-clause-taken c =
@@ -40,5 +36,5 @@ returns-in-Err-clause-taken c =
     let within : n ≤ length piece = omega (arith, c.if-piece-due.false) in
     let f = c.in-Err.fault in
     let e = c.in-Err.ensures.record_read in
-    let fault = subst (λ (s : List Bool). WholeFault s old.before (old.rest ++ take n piece) f.field f.kind) c.deref.ensures.value e.1 in
-    stops_same old _ c.args.out.now c.read_held_record.new.out piece f e.0 (stops_due old _ c.args.out.now piece f refl refl c.requires.due (record_stops old piece n f.field f.kind c.requires.form (old.part c.requires.form) due within fault))
+    let fault = fault_of_whole old.channels.form old.channels old.before (old.rest ++ take n piece) f.field f.kind c.requires.form e.1 in
+    stops_same old _ c.args.out.now c.read_held.new.out piece f e.0 (stops_due old _ c.args.out.now piece f refl refl c.requires.due (record_stops old piece n f.field f.kind c.requires.form (old.part c.requires.form) due within fault))

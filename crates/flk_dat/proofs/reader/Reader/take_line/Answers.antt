@@ -1,12 +1,10 @@
-use Rattle.std.proofs.Common.{◌≡◌, ◌+◌, ◌<◌, ℕ, Bool, List, take, get_or, ◌++◌, length, refl, sym, subst, ◌∙◌, arith}
-use Rattle.flk_text.specs.Lines.{without_cr}
-use Rattle.flk_cfg.specs.declared.config.Form.TheVariants.{Ascii}
-use Rattle.flk_dat.specs.Records.{Follows}
-use Rattle.flk_dat.specs.AsciiRecords.{IsLine, LineFault}
-use Rattle.flk_dat.specs.Heads.{Gains}
+use Rattle.std.proofs.Common.{◌≡◌, ◌+◌, ◌<◌, ℕ, take, get_or, ◌++◌, length, refl, sym, subst, ◌∙◌, arith}
+use Rattle.flk_cfg.specs.declared.config.Form.{Form}
+use Rattle.flk_dat.specs.Records.{IsPresent}
 use Rattle.flk_dat.proofs.LineEnds.{mark_of}
 use Rattle.flk_dat.proofs.StateLemmas.{Given}
 use Rattle.flk_dat.proofs.TakingLemmas.{takes_held_at, takes_whole, stops_due, stops_same}
+use Rattle.flk_dat.proofs.AsciiSteps.{writes_line, fault_of_line}
 use Rattle.flk_dat.proofs.ReaderLines.{end_of, end_ends, line_whole, line_stops, line_held, line_too_long, line_given}
 use Rattle.flk_dat.proofs.reader.Reader.take_line.Goals as goal
 
@@ -27,29 +25,32 @@ returns-in-Err-clause-taken c =
     let f = c.in-Err.fault in
     stops_due old _ c.args.out.now piece f refl refl c.requires.due (line_too_long old piece f.field f.kind c.requires.form all e.2 e.0 e.1)
 
-pub returns-in-Ok-read_held_line-clause-taken : goal.returns-in-Ok-read_held_line-clause-taken
-returns-in-Ok-read_held_line-clause-taken c =
+pub returns-in-Ok-read_held-clause-taken : goal.returns-in-Ok-read_held-clause-taken
+returns-in-Ok-read_held-clause-taken c =
     let old = c.args.self.now in
     let piece = c.args.piece.now in
     let n = c.line_end-end.result in
     let mark = mark_of (get_or piece n 0) in
     let lt : n < length piece = omega (arith, c.line_end-end.ensures.within, c.if-end-piece.false) in
-    let gains = subst (λ (s : List Bool). Gains (IsLine (length s) c.args.out.now.digital (without_cr (old.rest ++ take n piece))) Ascii s old.before c.args.out.now c.read_held_line.new.out c.in-Ok-read_held_line.number) c.deref.ensures.value c.in-Ok-read_held_line.ensures.line in
+    let gains = c.in-Ok-read_held.ensures.record_read in
     let r = gains.given in
-    let read = subst (λ (digital : ℕ). IsLine (length old.channels.selected.items) digital (without_cr (old.rest ++ take n piece)) r) c.requires.fits.digital gains.read in
+    let read = writes_line old.channels.form old.channels (old.rest ++ take n piece) r c.requires.form gains.good.writes in
+    let present = subst (λ (f : Form). IsPresent f old.channels.selected.items r) c.requires.form gains.good.present in
     let end = end_ends old piece n c.line_end-end.ensures.place lt in
-    let given = line_given old _ c.count.new.self c.in-Ok-read_held_line.number c.after.result (get_or piece n 0) c.requires.form refl refl refl c.in-Ok-read_held_line.ensures.cleared c.count.ensures c.after.ensures end in
-    takes_whole old c.count.new.self c.args.out.now c.read_held_line.new.out piece (n + 1) mark r (subst (λ (k : ℕ). Given old c.count.new.self k mark) (sym gains.number) given) c.requires.due gains.records
-    (line_whole old piece n r c.requires.form c.line_end-end.ensures.place lt read (subst (Follows old.before) (sym gains.number) gains.follows) gains.present)
+    let given = line_given old _ c.count.new.self c.in-Ok-read_held.number c.after.result (get_or piece n 0) c.requires.form refl refl refl c.in-Ok-read_held.ensures.cleared c.count.ensures c.after.ensures end in
+    takes_whole old c.count.new.self c.args.out.now c.read_held.new.out piece (n + 1) mark r (subst (λ (k : ℕ). Given old c.count.new.self k mark) (sym gains.number) given) c.requires.due gains.records
+    (line_whole old piece n r c.requires.form c.line_end-end.ensures.place lt read gains.good.follows present)
 
-pub returns-in-Err-read_held_line-clause-taken : goal.returns-in-Err-read_held_line-clause-taken
-returns-in-Err-read_held_line-clause-taken c =
+pub returns-in-Err-read_held-clause-taken : goal.returns-in-Err-read_held-clause-taken
+returns-in-Err-read_held-clause-taken c =
     let old = c.args.self.now in
     let piece = c.args.piece.now in
     let n = c.line_end-end.result in
     let lt : n < length piece = omega (arith, c.line_end-end.ensures.within, c.if-end-piece.false) in
-    let f = c.in-Err-read_held_line.fault in
-    let e = c.in-Err-read_held_line.ensures.line in
-    let line = subst (λ (s : List Bool). LineFault s c.args.out.now.digital old.before (without_cr (old.rest ++ take n piece)) f.field f.kind) c.deref.ensures.value e.1 in
-    let fault = subst (λ (digital : ℕ). LineFault old.channels.selected.items digital old.before (without_cr (old.rest ++ take n piece)) f.field f.kind) c.requires.fits.digital line in
-    stops_same old _ c.args.out.now c.read_held_line.new.out piece f e.0 (stops_due old _ c.args.out.now piece f refl refl c.requires.due (line_stops old piece n f.field f.kind c.requires.form c.line_end-end.ensures.place lt fault))
+    let f = c.in-Err-read_held.fault in
+    let e = c.in-Err-read_held.ensures.record_read in
+    let fault = fault_of_line old.channels.form old.channels old.before (old.rest ++ take n piece) f.field f.kind c.requires.form e.1 in
+    stops_same old _ c.args.out.now c.read_held.new.out piece f e.0 (stops_due old _ c.args.out.now piece f refl refl c.requires.due (line_stops old piece n f.field f.kind c.requires.form c.line_end-end.ensures.place lt fault))
+
+pub read_held-requires-clause-whole : goal.read_held-requires-clause-whole
+read_held-requires-clause-whole c = λ other. absurd (other c.requires.form)
