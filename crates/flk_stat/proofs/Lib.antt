@@ -1,0 +1,12 @@
+pub mod CountLemmas
+pub mod RankLemmas
+pub mod PercentileLemmas
+pub mod SmoothingSteps
+pub mod SmoothingLemmas
+pub mod SmoothingLaws
+pub mod WidthSteps
+pub mod WidthLemmas
+pub mod SeverityLemmas
+pub mod SeverityWidth
+pub mod LongTermLemmas
+pub mod LevelLemmas

@@ -1,0 +1,270 @@
+-- The short-term severity: greater levels give no lesser one, there is one, and how it is computed from whole levels.
+use Rattle.std.proofs.Common.{◌≡◌, inl, inr, ℕ, zero, suc, ◌+◌, ◌*◌, ◌^◌, ◌<◌, ◌≤◌, List, [], ◌∷◌, length, map, get_or, ℤ, pos, ◌+ℤ◌, ◌-ℤ◌, ◌*ℤ◌, ◌≤ℤ◌, ◌<ℤ◌, refl, sym, subst, ◌∙◌, ⊎_elim, arith}
+use Rattle.std.specs.Prelude.{negsuc}
+use Rattle.std.specs.Int.{int_min}
+use Rattle.std.specs.Int.RustNames.{unsigned_abs}
+use Rattle.std.specs.List.{AllZip, fold}
+use Rattle.std.specs.List.Sorted.{IsPermutation, IsSorted}
+use Rattle.std.specs.Ordering.{int_cmp}
+use Rattle.std.proofs.lemmas.Int.{ints, clamps, by_lt_z}
+use Rattle.std.proofs.lemmas.Nat.{mul-le}
+use Rattle.std.proofs.lemmas.List.{length-map}
+use Rattle.std.proofs.lemmas.List.Sorted.{length_permutation}
+use Rattle.flk_exact.specs.Rounding.{IsCeil, ceil_of, IsRootCeil}
+use Rattle.flk_exact.specs.Fraction.{Fraction, ◌≤ℚ◌, ◌+ℚ◌, ◌*ℚ◌, whole, units}
+use Rattle.flk_exact.proofs.WholeLemmas.{atom, nat, times_is, at_most, from_at_most, scale_≤}
+use Rattle.flk_exact.proofs.RoundingLemmas.{IsCeil-ceil_of, ceil_at_most}
+use Rattle.flk_exact.proofs.RootLemmas.{least_reaching}
+use Rattle.flk_exact.proofs.FractionLemmas.{≤ℚ-refl, ≤ℚ-trans}
+use Rattle.flk_exact.proofs.NumeratorLemmas.{IsOver, over_own, over_sum, over_times, over_whole, over_at_most, at_most_over, numerators, number}
+use Rattle.flk_exact.proofs.ListLemmas.{AllZip-weaker, AllZip-joined, AllZip-length}
+use Rattle.flk_stat.specs.declared.severity.Share.{Share}
+use Rattle.flk_stat.specs.Rank.{HasRank, is_less, rank_of}
+use Rattle.flk_stat.specs.Severity.{shares, IsPercentile, ArePercentiles, weighted, Reaches, IsCappedLeast, cap, IsSeverity, IsSeverityOfEnds}
+use Rattle.flk_stat.specs.Ranked.{IsLevelEnd, ranked_at, weighted_total, ReachesSum}
+use Rattle.flk_stat.proofs.RankLemmas.{rank-permutation, rank_exists, AllZip-itself}
+use Rattle.flk_stat.proofs.PercentileLemmas.{fraction_order, rank_order, rank_in_units, rank_at, rank_in}
+
+-- ---- greater levels give no lesser severity
+
+sum_≤ : (k : ℕ) (p q s t : Fraction) → p ≤ℚ q → s ≤ℚ t → (whole (pos k) *ℚ p +ℚ s) ≤ℚ (whole (pos k) *ℚ q +ℚ t)
+sum_≤ k p q s t h g =
+    let fs : List Fraction = p ∷ q ∷ s ∷ t ∷ [] in
+    let n = numerators fs in
+    let delta = n.base * 2 ^ 48 in
+    let base = n.some in
+    let hd : 0 < delta = omega arith in
+    let op = number fs n 0 (omega arith) in
+    let oq = number fs n 1 (omega arith) in
+    let os = number fs n 2 (omega arith) in
+    let ot = number fs n 3 (omega arith) in
+    let zp = get_or n.numbers 0 (pos 0) in
+    let zq = get_or n.numbers 1 (pos 0) in
+    let zs = get_or n.numbers 2 (pos 0) in
+    let zt = get_or n.numbers 3 (pos 0) in
+    let a = over_at_most delta p q zp zq hd h op oq in
+    let b = over_at_most delta s t zs zt hd g os ot in
+    let c = scale_≤ zp zq k a in
+    let d : (pos k *ℤ zp +ℤ zs) ≤ℤ (pos k *ℤ zq +ℤ zt) = omega (arith, ints, b, c) in
+    at_most_over delta _ _ _ _ hd d (over_sum delta _ s (pos k *ℤ zp) zs (over_times delta (pos k) p zp op) os) (over_sum delta _ t (pos k *ℤ zq) zt (over_times delta (pos k) q zq oq) ot)
+
+weighted_≤ : (ss : List Share) (vs ws : List Fraction) → AllZip ◌≤ℚ◌ vs ws → weighted ss vs ≤ℚ weighted ss ws
+weighted_≤ [] vs ws h = record { cross = omega (arith, ints) }
+weighted_≤ (s ∷ ss) [] [] h = record { cross = omega (arith, ints) }
+weighted_≤ (s ∷ ss) [] (w ∷ ws) h = absurd h
+weighted_≤ (s ∷ ss) (v ∷ vs) [] h = absurd h
+weighted_≤ (s ∷ ss) (v ∷ vs) (w ∷ ws) h = sum_≤ s.weight v w (weighted ss vs) (weighted ss ws) h.0 (weighted_≤ ss vs ws h.1)
+
+percentiles_≤ : (ss : List Share) (xs ys vs ws : List Fraction) → AllZip ◌≤ℚ◌ xs ys → ArePercentiles ss xs vs → ArePercentiles ss ys ws → AllZip ◌≤ℚ◌ vs ws
+percentiles_≤ ss xs ys vs ws pairs a b =
+    let same : length xs ≡ length ys = AllZip-length ◌≤ℚ◌ xs ys pairs in
+    AllZip-joined (λ s v. IsPercentile xs s.tenths v) (λ s w. IsPercentile ys s.tenths w) ◌≤ℚ◌
+    (λ s v w p q. rank_order (rank_of s.tenths (length xs)) xs ys v w pairs p (subst (λ (n : ℕ). HasRank is_less (rank_of s.tenths n) ys w) (sym same) q))
+    ss vs ws a b
+
+scaled_≤ : (S T : Fraction) → S ≤ℚ T → (whole (pos 1000000000000000000) *ℚ S) ≤ℚ (whole (pos 1000000000000000000) *ℚ T)
+scaled_≤ S T h = record {
+  cross = at_most (times_is (times_is (nat 1000000000000000000) (atom S.num)) (nat (1 * T.den))) (times_is (times_is (nat 1000000000000000000) (atom T.num)) (nat (1 * S.den)))
+      (omega (arith, from_at_most (times_is (atom S.num) (nat T.den)) (times_is (atom T.num) (nat S.den)) h.cross));
+}
+
+reaches_≤ : (S T : Fraction) (z : ℤ) → S ≤ℚ T → Reaches T z → Reaches S z
+reaches_≤ S T z h r = ≤ℚ-trans _ _ _ (scaled_≤ S T h) r
+
+root_≤ : (S T : Fraction) (v w : ℤ) → S ≤ℚ T → IsCappedLeast (Reaches S) cap v → IsCappedLeast (Reaches T) cap w → v ≤ℤ w
+root_≤ S T v w h a b =
+    ⊎_elim
+    (λ top. omega (arith, ints, top, a.capped))
+    (λ r. a.least w b.natural (reaches_≤ S T w h r))
+    b.reaches
+
+pub severity_≤ : (xs ys : List Fraction) (v w : ℤ) → AllZip ◌≤ℚ◌ xs ys → IsSeverity xs v → IsSeverity ys w → v ≤ℤ w
+severity_≤ xs ys v w pairs a b =
+    root_≤ _ _ v w (weighted_≤ shares a.percentiles b.percentiles (percentiles_≤ shares xs ys a.percentiles b.percentiles pairs a.are_percentiles b.are_percentiles)) a.is_least b.is_least
+
+pub severity_unique : (levels : List Fraction) (v w : ℤ) → IsSeverity levels v → IsSeverity levels w → v ≡ w
+severity_unique levels v w a b =
+    let pairs = AllZip-itself ◌≤ℚ◌ ≤ℚ-refl levels in
+    omega (arith, ints, severity_≤ levels levels v w pairs a b, severity_≤ levels levels w v pairs b a)
+
+-- the severity does not see the order of the levels
+pub severity-permutation : (xs ys : List Fraction) (w : ℤ) → IsPermutation xs ys → IsSeverity xs w → IsSeverity ys w
+severity-permutation xs ys w h s =
+    let same : length ys ≡ length xs = length_permutation xs ys h in
+    record {
+      percentiles = s.percentiles;
+      are_percentiles =
+          AllZip-weaker (λ s v. IsPercentile xs s.tenths v) (λ s v. IsPercentile ys s.tenths v)
+          (λ s v p. subst (λ (n : ℕ). HasRank is_less (rank_of s.tenths n) ys v) (sym same) (rank-permutation is_less _ xs ys v h p)) shares s.percentiles s.are_percentiles;
+      is_least = s.is_least;
+    }
+
+-- ---- there is one
+
+-- the tenths of a percent of each share are from 1 to 1000
+abbrev AreTenths : List Share → Type 0
+AreTenths [] = Unit {0}
+AreTenths (s ∷ ss) = (0 < s.tenths) × (s.tenths ≤ 1000) × AreTenths ss
+
+tenths : AreTenths shares
+tenths = (omega arith, omega arith, (omega arith, omega arith, (omega arith, omega arith, (omega arith, omega arith, (omega arith, omega arith, (omega arith, omega arith, (omega arith, omega arith, (omega arith, omega arith, (omega arith, omega arith, (omega arith, omega arith, (omega arith, omega arith, (omega arith, omega arith, (omega arith, omega arith, (omega arith, omega arith, (omega arith, omega arith, tt)))))))))))))))
+
+percentiles_exist : (levels : List Fraction) (ss : List Share) → 0 < length levels → AreTenths ss → (vs : List Fraction) × ArePercentiles ss levels vs
+percentiles_exist levels [] some h = ([], tt)
+percentiles_exist levels (s ∷ ss) some h =
+    let within = rank_in s.tenths (length levels) h.0 h.1 some in
+    let first = rank_exists is_less fraction_order (rank_of s.tenths (length levels)) levels within.0 within.1 in
+    let rest = percentiles_exist levels ss some h.2 in
+    (first.0 ∷ rest.0, (first.1, rest.1))
+
+reaches_natural : (S : Fraction) (n k : ℕ) → S.num ≡ pos n → 1000000000000000000 * n ≤ 30000 * (k * k) * S.den → Reaches S (pos k)
+reaches_natural S n k e h = record { cross = rw e (omega (arith, ints, h)) }
+
+natural_reaches : (S : Fraction) (n k : ℕ) → S.num ≡ pos n → Reaches S (pos k) → 1000000000000000000 * n ≤ 30000 * (k * k) * S.den
+natural_reaches S n k e h = let c = rw e at h.cross in omega (arith, ints, c)
+
+least_natural : (S : Fraction) (n r : ℕ) (z : ℤ) → S.num ≡ pos n → ((k : ℕ) → 1000000000000000000 * n ≤ 30000 * (k * k) * S.den → r ≤ k) → pos 0 ≤ℤ z → Reaches S z → pos r ≤ℤ z
+least_natural S n r (pos k) e least low h = omega (arith, ints, least k (natural_reaches S n k e h))
+least_natural S n r (negsuc k) e least low h = absurd (omega (arith, ints, low))
+
+far_enough : (n d : ℕ) → 0 < d → n ≤ 30000 * ((0 + n) * (0 + n)) * d
+far_enough zero d some = omega arith
+far_enough (suc n) d some = omega (arith, mul-le (1 * suc n) 1 (suc n * suc n) d (mul-le 1 (suc n) (suc n) (suc n) (omega arith) (omega arith)) some)
+
+-- the lesser of the cap and the least one
+capped : (Reach : ℤ → Type 0) (r : ℤ) → pos 0 ≤ℤ r → Reach r → ((z : ℤ) → pos 0 ≤ℤ z → Reach z → r ≤ℤ z) → (w : ℤ) × IsCappedLeast Reach cap w
+capped Reach r natural reach least =
+    by_lt_z cap r
+    (λ above. (cap, record { natural = omega (arith, ints); capped = omega (arith, ints); reaches = inl refl; least = λ z low h. (let o = least z low h in omega (arith, ints, o, above)) }))
+    (λ within. (r, record { natural = natural; capped = within; reaches = inr reach; least = least }))
+
+root_exists : (S : Fraction) (num : ℤ) → S.num ≡ num → (w : ℤ) × IsCappedLeast (Reaches S) cap w
+root_exists S (pos n) e =
+    let l = least_reaching (λ k. 30000 * (k * k) * S.den) (1000000000000000000 * n) 0 (1000000000000000000 * n) (λ z h. omega arith) (far_enough (1000000000000000000 * n) S.den S.positive) in
+    capped (Reaches S) (pos l.0) (omega (arith, ints)) (reaches_natural S n l.0 e l.1) (λ z low h. least_natural S n l.0 z e l.2 low h)
+root_exists S (negsuc n) e = capped (Reaches S) (pos 0) (omega (arith, ints)) record { cross = rw e (omega (arith, ints)) } (λ z low h. low)
+
+pub severity_exists : (levels : List Fraction) → 0 < length levels → (w : ℤ) × IsSeverity levels w
+severity_exists levels some =
+    let vs = percentiles_exist levels shares some tenths in
+    let w = root_exists (weighted shares vs.0) (weighted shares vs.0).num refl in
+    (w.0, record { percentiles = vs.0; are_percentiles = vs.1; is_least = w.1 })
+
+-- ---- the severity of whole levels
+
+-- X is the sum in units
+reaches_units : (S : Fraction) (X z : ℤ) → IsOver (2 ^ 48) S X → Reaches S z → (X *ℤ pos 6103515625) ≤ℤ ((z *ℤ z) *ℤ pos 51539607552)
+reaches_units S X z over h =
+    let q = z *ℤ z in
+    let e = over_at_most (2 ^ 48) _ _ (pos 1000000000000000000 *ℤ X) (pos (2 ^ 48) *ℤ (pos 30000 *ℤ q)) (omega arith) h (over_times (2 ^ 48) (pos 1000000000000000000) S X over) (over_whole (2 ^ 48) (pos 30000 *ℤ q)) in
+    let f = from_at_most (times_is (nat 1000000000000000000) (atom X)) (times_is (nat (2 ^ 48)) (times_is (nat 30000) (atom q))) e in
+    at_most (times_is (atom X) (nat 6103515625)) (times_is (atom q) (nat 51539607552)) (omega (arith, f))
+
+units_reaches : (S : Fraction) (X z : ℤ) → IsOver (2 ^ 48) S X → (X *ℤ pos 6103515625) ≤ℤ ((z *ℤ z) *ℤ pos 51539607552) → Reaches S z
+units_reaches S X z over h =
+    let q = z *ℤ z in
+    let f = from_at_most (times_is (atom X) (nat 6103515625)) (times_is (atom q) (nat 51539607552)) h in
+    let e : (pos 1000000000000000000 *ℤ X) ≤ℤ (pos (2 ^ 48) *ℤ (pos 30000 *ℤ q)) =
+    at_most (times_is (nat 1000000000000000000) (atom X)) (times_is (nat (2 ^ 48)) (times_is (nat 30000) (atom q))) (omega (arith, f)) in
+    at_most_over (2 ^ 48) _ _ _ _ (omega arith) e (over_times (2 ^ 48) (pos 1000000000000000000) S X over) (over_whole (2 ^ 48) (pos 30000 *ℤ q))
+
+-- x is a quotient rounded up: it is at most a whole number exactly where the quotient is
+pub ceil_reached : (a b x q : ℤ) → IsCeil a b x → pos 0 <ℤ b → x ≤ℤ q → a ≤ℤ (q *ℤ b)
+ceil_reached a (pos b) x q c some h = omega (arith, ints, c.within, scale_≤ x q b h)
+ceil_reached a (negsuc b) x q c some h = absurd (omega (arith, ints))
+
+pub capped_root_is : (X x r w : ℤ) → IsCeil (X *ℤ pos 6103515625) (pos 51539607552) x → IsRootCeil x r → w ≡ int_min r cap → IsCappedLeast (ReachesSum X) cap w
+capped_root_is X x r w ceil root is =
+    let natural = root.natural in
+    let reached : ReachesSum X r = ceil_reached (X *ℤ pos 6103515625) (pos 51539607552) x (r *ℤ r) ceil (omega (arith, ints)) root.within in
+    record {
+      natural = omega (arith, ints, clamps, is, natural);
+      capped = omega (arith, ints, clamps, is);
+      reaches =
+          by_lt_z r cap
+          (λ less. let e : w ≡ r = omega (arith, ints, clamps, is) in inr (subst (λ (z : ℤ). ReachesSum X z) (sym e) reached))
+          (λ above. inl (omega (arith, ints, clamps, is)));
+      least = λ z low h.
+          let order = root.least z low (ceil_at_most (X *ℤ pos 6103515625) 51539607552 x (z *ℤ z) ceil h) in
+          omega (arith, ints, clamps, is, order);
+    }
+
+-- as a fraction, X units reach as far
+least_in_units : (S : Fraction) (X w : ℤ) → IsOver (2 ^ 48) S X → IsCappedLeast (ReachesSum X) cap w → IsCappedLeast (Reaches S) cap w
+least_in_units S X w over h = record {
+  natural = h.natural;
+  capped = h.capped;
+  reaches = ⊎_elim (λ top. inl top) (λ r. inr (units_reaches S X w over r)) h.reaches;
+  least = λ z low r. h.least z low (reaches_units S X z over r);
+}
+
+pub least_from_units : (S : Fraction) (X w : ℤ) → IsOver (2 ^ 48) S X → IsCappedLeast (Reaches S) cap w → IsCappedLeast (ReachesSum X) cap w
+least_from_units S X w over h = record {
+  natural = h.natural;
+  capped = h.capped;
+  reaches = ⊎_elim (λ top. inl top) (λ r. inr (reaches_units S X w over r)) h.reaches;
+  least = λ z low r. h.least z low (units_reaches S X z over r);
+}
+
+-- a percentile, times its weight
+pub record IsPart (n : ℕ) (z : ℤ) : Type 0 where
+  pub low : pos 0 ≤ℤ (pos n *ℤ z)
+  pub high : (pos n *ℤ z) ≤ℤ pos (2 ^ 104)
+
+pub part_of : (n : ℕ) (z : ℤ) → n ≤ 2 ^ 11 → IsLevelEnd z → IsPart n z
+part_of n (pos m) light h = record { low = omega (arith, ints); high = omega (arith, ints, mul-le n m (2 ^ 11) (2 ^ 93) light (omega (arith, ints, h.high))) }
+part_of n (negsuc m) light h = absurd (omega (arith, ints, h.low))
+
+-- the sum of percentiles in units
+abbrev total : List ℤ → List Share → ℤ
+total xs [] = pos 0
+total xs (s ∷ ss) = pos s.weight *ℤ ranked_at xs s.tenths +ℤ total xs ss
+
+sum_over : (xs : List ℤ) (ss : List Share) → IsOver (2 ^ 48) (weighted ss (map (λ s. units (ranked_at xs s.tenths)) ss)) (total xs ss)
+sum_over xs [] = record { is = refl }
+sum_over xs (s ∷ ss) =
+    let z = ranked_at xs s.tenths in
+    over_sum (2 ^ 48) _ _ (pos s.weight *ℤ z) (total xs ss) (over_times (2 ^ 48) (pos s.weight) (units z) z (over_own (units z))) (sum_over xs ss)
+
+sum_moved : (a b s : ℤ) → a +ℤ b +ℤ s ≡ a +ℤ (b +ℤ s)
+sum_moved a b s = omega (arith, ints)
+
+total_folded : (xs : List ℤ) (a : ℤ) (ss : List Share) → fold (λ sum s. sum +ℤ pos s.weight *ℤ ranked_at xs s.tenths) a ss ≡ a +ℤ total xs ss
+total_folded xs a [] = omega (arith, ints)
+total_folded xs a (s ∷ ss) = total_folded xs (a +ℤ pos s.weight *ℤ ranked_at xs s.tenths) ss ∙ sum_moved a (pos s.weight *ℤ ranked_at xs s.tenths) (total xs ss)
+
+total_is : (xs : List ℤ) (ss : List Share) → weighted_total xs ss ≡ total xs ss
+total_is xs ss = let e = total_folded xs (pos 0) ss in omega (arith, ints, e)
+
+ranked_is : (xs : List ℤ) (k : ℕ) → 0 < length xs → IsSorted int_cmp xs → 0 < k → k ≤ 1000 → IsPercentile (map units xs) k (units (ranked_at xs k))
+ranked_is xs k some rises low high =
+    let b = rank_in k (length xs) low high some in
+    let r = rank_at xs (rank_of k (length xs)) (pos 0) rises b.0 b.1 in
+    subst (λ (n : ℕ). HasRank is_less (rank_of k n) (map units xs) (units (ranked_at xs k))) (sym (length-map xs units)) (rank_in_units (rank_of k (length xs)) xs (ranked_at xs k) r)
+
+ranked_each : (xs : List ℤ) (ss : List Share) → 0 < length xs → IsSorted int_cmp xs → AreTenths ss → ArePercentiles ss (map units xs) (map (λ s. units (ranked_at xs s.tenths)) ss)
+ranked_each xs [] some rises h = tt
+ranked_each xs (s ∷ ss) some rises h = (ranked_is xs s.tenths some rises h.0 h.1, ranked_each xs ss some rises h.2)
+
+pub severity_is : (rising : List ℤ) (X w : ℤ) → 0 < length rising → IsSorted int_cmp rising → X ≡ weighted_total rising shares → IsCappedLeast (ReachesSum X) cap w
+    → IsSeverityOfEnds rising w
+severity_is rising X w some rises sum least = record {
+  percentiles = map (λ s. units (ranked_at rising s.tenths)) shares;
+  are_percentiles = ranked_each rising shares some rises tenths;
+  is_least =
+      least_in_units (weighted shares (map (λ s. units (ranked_at rising s.tenths)) shares)) X w
+      (subst (λ (z : ℤ). IsOver (2 ^ 48) (weighted shares (map (λ s. units (ranked_at rising s.tenths)) shares)) z) (sym (sum ∙ total_is rising shares)) (sum_over rising shares)) least;
+}
+
+bounded : (q X : ℤ) → pos 0 ≤ℤ X → X ≤ℤ pos (2 ^ 108) → (X *ℤ pos 6103515625) ≤ℤ (q *ℤ pos 51539607552) → (q *ℤ pos 51539607552 -ℤ pos 51539607552) <ℤ (X *ℤ pos 6103515625)
+    → unsigned_abs q < 2 ^ 126
+bounded q X low high a b = omega (arith, ints, low, high, a, b)
+
+-- the quotient under the root is small
+pub quotient_small : (X : ℤ) → pos 0 ≤ℤ X → X ≤ℤ pos (2 ^ 108) → unsigned_abs (ceil_of (X *ℤ pos 6103515625) (pos 51539607552)) < 2 ^ 126
+quotient_small X low high =
+    let q = ceil_of (X *ℤ pos 6103515625) (pos 51539607552) in
+    let is : IsCeil (X *ℤ pos 6103515625) (pos 51539607552) q = IsCeil-ceil_of (X *ℤ pos 6103515625) 51539607552 (omega arith) in
+    let a = is.within in
+    let b = is.least in
+    bounded q X low high a b

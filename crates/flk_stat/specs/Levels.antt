@@ -1,0 +1,19 @@
+-- What the state of the levels of an interval stands for. Levels are in units of 2^-48, in the order of time.
+use Rattle.std.specs.Prelude.{◌≡◌, ℕ, ◌-◌, List, length}
+use Rattle.flk_num.specs.declared.interval.Interval.{Interval}
+use Rattle.flk_num.specs.Interval.{lows, highs}
+use Rattle.flk_stat.specs.declared.levels.Levels.{Levels}
+
+-- how many levels an interval has
+abbrev pub size_of : Levels → ℕ
+size_of l = l.size
+
+-- how many may still be added
+abbrev pub room_of : Levels → ℕ
+room_of l = l.size - length l.lows.items
+
+-- These levels were added, of an interval of n: the state keeps their ends.
+pub record Added (l : Levels) (n : ℕ) (ls : List Interval) : Type 0 where
+  pub size : size_of l ≡ n
+  pub lows : l.lows.items ≡ lows ls
+  pub highs : l.highs.items ≡ highs ls

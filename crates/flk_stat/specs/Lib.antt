@@ -1,0 +1,9 @@
+pub mod Smoothing
+pub mod Rounded
+pub mod Smooth
+pub mod Width
+pub mod Rank
+pub mod Severity
+pub mod LongTerm
+pub mod Levels
+pub mod Ranked
