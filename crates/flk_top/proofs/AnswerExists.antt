@@ -1,12 +1,9 @@
--- Some answer is due: words and files have a status and text.
-use Rattle.std.proofs.Common.{◌⊎◌, ℕ, suc, ◌+◌, ◌-◌, ◌*◌, ◌^◌, ◌<◌, ◌≤◌, List, [], ◌∷◌, ◌++◌, length, get_or, codes, ℤ, refl, sym, ◌∙◌, arith, inl, inr}
-use Rattle.std.specs.Int.RustNames.{unsigned_abs}
-use Rattle.std.specs.Str.{str_eq_ignore_ascii_case}
-use Rattle.std.proofs.lemmas.Bool.{cases_lt, cases_Bool, true≢false}
-use Rattle.std.proofs.lemmas.List.{get_or_default}
-use Rattle.flk_num.specs.Lamp.{half_of, hertz_of}
+-- Some answer is due: words and files have an outcome.
+use Rattle.std.proofs.Common.{◌⊎◌, ℕ, suc, ◌+◌, ◌-◌, ◌*◌, ◌^◌, ◌<◌, ◌≤◌, List, [], ◌∷◌, ◌++◌, length, map, get_or, codes, ℤ, refl, sym, ◌∙◌, arith, inl, inr}
+use Rattle.std.proofs.lemmas.Bool.{cases_lt}
+use Rattle.flk_num.specs.Rate.{half_at}
 use Rattle.flk_num.specs.declared.lamp.Lamp.{Lamp}
-use Rattle.flk_num.specs.declared.lamp.Lamp.TheVariants.{L230, L120}
+use Rattle.flk_num.specs.declared.rate.Rate.{Rate}
 use Rattle.flk_cert.specs.declared.coefs.Coefs.{Coefs}
 use Rattle.flk_cert.specs.Gain.{input_of, rounding_of}
 use Rattle.flk_cert.proofs.MadeCases.{made_exists}
@@ -15,27 +12,33 @@ use Rattle.flk_design.proofs.DesignCases.{design_exists}
 use Rattle.flk_cfg.specs.Kinds.{kind_number}
 use Rattle.flk_cfg.specs.declared.config.Analog.{Analog}
 use Rattle.flk_cfg.specs.declared.config.Config.{Config}
-use Rattle.flk_cfg.proofs.SetCases.{is_whole}
 use Rattle.flk_cfg.proofs.ConfigCases.{config_or_first_fault}
-use Rattle.flk_cfg.proofs.Whole.{no_analog}
-use Rattle.flk_scale.specs.Voltage.{IsVoltageUnit}
-use Rattle.flk_scale.specs.Scale.{HasSmallScale}
-use Rattle.flk_dat.specs.Kinds.{kind_number as record_kind}
+use Rattle.flk_dat.specs.Kinds.{data_kind_number as record_kind}
 use Rattle.flk_dat.specs.Records.{record_at, layout_of}
 use Rattle.flk_dat.proofs.FileCases.{accepted_or_first_fault}
-use Rattle.flk_top.specs.Command.{IsLevels, configuration_name, data_name}
-use Rattle.flk_scale.specs.Channel.{IsChannel, IsFrequencyOf}
+use Rattle.flk_top.specs.Answer.{IsDueFor, IsDue, usage, asked}
+use Rattle.flk_top.specs.Certified.{IsRefused, IsFirstRefused}
+use Rattle.flk_top.specs.CheckDue.{IsDueForSummary, file_fault, checked, IsDueForCheck, no_configuration as unread, read}
+use Rattle.flk_top.specs.Command.{Asks, inputs_of, configuration_name, data_name}
+use Rattle.flk_top.specs.Configuration.{configuration_limit, IsConfiguration, IsConfigurationFault, too_long, first_fault}
+use Rattle.flk_top.specs.Faults.{usage_line, match_line, data_line, range_line, configuration_line, lamp_line}
+use Rattle.flk_top.specs.LevelsDue.{IsDueForRecording, data_fault, over_range, measured, IsDueForLevels, no_configuration, no_match, matched}
 use Rattle.flk_top.specs.Matching.{Matches, IsMatchFault, recorded_voltages}
+use Rattle.flk_top.specs.Outcome.{Outcome, completed, refusal}
+use Rattle.flk_top.specs.Tables.{section_line, gain_line, AreSectionLines, AreLines, IsDueForTables, certified, refused}
 use Rattle.flk_top.specs.Text.{levels_text, check_text}
-use Rattle.flk_top.specs.Tables.{section_line, gain_line, AreSectionLines, IsRefused, AreLines, IsFirstRefused, lamp_line, IsDueForTables, certified, refused}
-use Rattle.flk_top.specs.Faults.{usage_line, match_line, data_line, range_line, configuration_line, configuration_limit, IsConfigurationFault, too_long, first_fault}
-use Rattle.flk_top.specs.Answer.{IsConfiguration, IsDueForLevels, data_fault, over_range, measured, IsDueForCheck, file_fault, checked, IsDue, usage, configuration, match, levels, check, tables}
-use Rattle.flk_top.specs.declared.matching.MatchFault.{MatchFault}
-use Rattle.flk_top.specs.declared.matching.MatchFault.TheVariants as faults
+use Rattle.flk_top.specs.Told.{Files}
+use Rattle.flk_top.specs.declared.command.Command.{Command}
+use Rattle.flk_top.specs.declared.command.Command.TheVariants.{Levels, Check, Tables}
+use Rattle.flk_top.specs.declared.command.LevelsCommand.{LevelsCommand}
+use Rattle.flk_scale.specs.declared.fault.MatchFault.{MatchFault}
+use Rattle.flk_scale.specs.declared.fault.MatchFault.TheVariants as faults
 use Rattle.flk_top.proofs.TablesLemmas.{not_refused}
 use Rattle.flk_top.proofs.MeasureLemmas.{half_some}
-use Rattle.flk_top.proofs.LevelsExist.{levels_exist, over_cases}
-use Rattle.flk_top.proofs.WordCases.{nothing, for_levels, for_check, for_tables, asked}
+use Rattle.flk_scale.proofs.MatchingLemmas.{channel_cases, lamp_cases}
+use Rattle.flk_scale.proofs.RangeLemmas.{over_cases}
+use Rattle.flk_top.proofs.LevelsExist.{levels_exist}
+use Rattle.flk_top.proofs.WordCases.{asked_for}
 
 -- ---- tables
 
@@ -63,15 +66,15 @@ lines_cases i (k ∷ ks) =
       ]
     ]
 
-abbrev HasAnswer : (ℕ → List ℕ → Type 0) → Type 0
-HasAnswer due = (status : ℕ) × (text : List ℕ) × due status text
+abbrev HasOutcome : (Outcome → Type 0) → Type 0
+HasOutcome due = (o : Outcome) × due o
 
-tables_due : (lamp : Lamp) → HasAnswer (IsDueForTables lamp)
-tables_due lamp =
-    let design = design_exists lamp in
+tables_due : (lamp : Lamp) (rate : Rate) → HasOutcome (IsDueForTables lamp rate)
+tables_due lamp rate =
+    let design = design_exists lamp rate in
     elim (lines_cases 1 design.0) [
-      | inl lines ↦ (0, lines.0, certified design.0 design.1 lines.1 refl)
-      | inr first ↦ (2, lamp_line (first.0 + 1), refused design.0 first.0 design.1 first.1 refl refl)
+      | inl lines ↦ (completed lines.0, certified design.0 lines.0 design.1 lines.1 refl)
+      | inr first ↦ (refusal (lamp_line (first.0 + 1)), refused design.0 first.0 design.1 first.1 refl)
     ]
 
 -- ---- the configuration
@@ -88,118 +91,80 @@ configuration_cases bytes =
 
 -- ---- the channel
 
-unit_cases : (text : List ℕ) → IsVoltageUnit text ⊎ ¬ IsVoltageUnit text
-unit_cases text =
-    elim (cases_Bool (str_eq_ignore_ascii_case text (codes "V"))) [
-      | inl volt ↦ inl (inl volt)
-      | inr no_volt ↦ elim (cases_Bool (str_eq_ignore_ascii_case text (codes "kV"))) [
-        | inl kilovolt ↦ inl (inr kilovolt)
-        | inr no_kilovolt ↦ inr (λ unit.
-            elim unit [
-              | inl volt ↦ true≢false (sym volt ∙ no_volt)
-              | inr kilovolt ↦ true≢false (sym kilovolt ∙ no_kilovolt)
-            ])
+match_cases : (c : Config) (channel : ℕ) → 1 ≤ channel → ((a : Analog) × (lamp : Lamp) × Matches c channel a lamp) ⊎ ((fault : MatchFault) × IsMatchFault c channel fault)
+match_cases c channel from =
+    elim (channel_cases c channel from) [
+      | inr fails ↦ inr (fails.0, inl fails.1)
+      | inl can ↦ elim (lamp_cases c.lf.n) [
+        | inl lamp ↦ inl (can.0, lamp.0, record { there = can.1; scale = can.2; frequency = lamp.1 })
+        | inr none ↦ inr (faults.Lamp 0 c.lf, inr (can, (refl, none)))
       ]
-    ]
-
-scale_cases : (a : Analog) → HasSmallScale a ⊎ ¬ HasSmallScale a
-scale_cases a =
-    elim (cases_lt (10000 * 10 ^ 24) (unsigned_abs a.a.n)) [
-      | inl large ↦ inr (λ is. omega (arith, large, is.factor))
-      | inr factor ↦ elim (cases_lt (10000 * 10 ^ 24) (unsigned_abs a.b.n)) [
-        | inl large ↦ inr (λ is. omega (arith, large, is.offset))
-        | inr offset ↦ inl (record { factor = factor; offset = offset })
-      ]
-    ]
-
-no_lamp : (z : ℤ) → ¬ IsFrequencyOf L230 z → ¬ IsFrequencyOf L120 z → (lamp : Lamp) → ¬ IsFrequencyOf lamp z
-no_lamp z first second L230 is = first is
-no_lamp z first second L120 is = second is
-
-lamp_cases : (z : ℤ) → ((lamp : Lamp) × IsFrequencyOf lamp z) ⊎ ((lamp : Lamp) → ¬ IsFrequencyOf lamp z)
-lamp_cases z =
-    elim (is_whole z (hertz_of L230 * 10 ^ 24)) [
-      | inl same ↦ inl (L230, same)
-      | inr first ↦ elim (is_whole z (hertz_of L120 * 10 ^ 24)) [
-        | inl same ↦ inl (L120, same)
-        | inr second ↦ inr (no_lamp z first second)
-      ]
-    ]
-
-channel_cases : (c : Config) (channel : ℕ) → 1 ≤ channel → ((a : Analog) × (lamp : Lamp) × Matches c channel a lamp) ⊎ ((fault : MatchFault) × IsMatchFault c channel fault)
-channel_cases c channel from =
-    elim (cases_lt (length c.analog) channel) [
-      | inl past ↦ inr (faults.Channel channel (length c.analog), (past, refl, refl))
-      | inr within ↦
-          let a = get_or c.analog (channel - 1) no_analog in
-          let there : IsChannel c channel a = record { from = from; within = within; is = λ none. get_or_default c.analog (channel - 1) none no_analog (omega (arith, from, within)) } in
-          elim (unit_cases a.uu) [
-            | inr no_unit ↦ inr (faults.Unit channel, (refl, a, there, no_unit))
-            | inl unit ↦ elim (scale_cases a) [
-              | inr no_scale ↦ inr (faults.Scale channel, (refl, a, there, unit, no_scale))
-              | inl small ↦ elim (lamp_cases c.lf.n) [
-                | inl lamp ↦ inl (a, lamp.0, record { there = there; scale = record { unit = unit; small = small }; frequency = lamp.1 })
-                | inr none ↦ inr (faults.Lamp c.lf, (refl, a, there, record { unit = unit; small = small }, none))
-              ]
-            ]
-          ]
     ]
 
 -- ---- the data
 
-levels_due : (channel nominal uncertainty : ℕ) (c : Config) (a : Analog) (lamp : Lamp) (bytes : List ℕ) → 0 < nominal → HasAnswer (IsDueForLevels channel nominal uncertainty c a lamp bytes)
-levels_due channel nominal uncertainty c a lamp bytes some =
+recording_due : (channel nominal uncertainty : ℕ) (c : Config) (a : Analog) (lamp : Lamp) (bytes : List ℕ) → 0 < nominal
+    → HasOutcome (IsDueForRecording channel nominal uncertainty c a lamp bytes)
+recording_due channel nominal uncertainty c a lamp bytes some =
     elim (accepted_or_first_fault (layout_of c (channel ∷ [])) bytes) [
       | inl is ↦
           let rs = is.0 in
           elim (over_cases nominal (recorded_voltages a channel rs)) [
             | inl within ↦
-                let found = levels_exist (half_of lamp) nominal uncertainty (recorded_voltages a channel rs) (half_some lamp) some in
-                (0, levels_text channel found.0, measured rs found.0 is.1 within found.1 refl refl)
-            | inr over ↦ (2, range_line (over.0 + 1) channel, over_range rs over.0 is.1.file.first is.1.present over.1 refl refl)
+                let found = levels_exist (half_at lamp c.rate) nominal uncertainty (recorded_voltages a channel rs) (half_some lamp c.rate) some in
+                (completed (levels_text channel found.0), measured rs found.0 is.1 within found.1 refl)
+            | inr over ↦ (refusal (range_line (over.0 + 1) channel), over_range rs over.0 is.1.file.first is.1.present over.1 refl)
           ]
       | inr out ↦
           let rs = out.3.0 in
           let fault = out.3.2 in
           elim (over_cases nominal (recorded_voltages a channel rs)) [
-            | inl within ↦ (2, data_line (length rs + 1) out.1 (record_kind out.2), data_fault rs out.1 out.2 fault within refl refl)
-            | inr over ↦ (2, range_line (over.0 + 1) channel, over_range rs over.0 fault.first fault.present over.1 refl refl)
+            | inl within ↦ (refusal (data_line (length rs + 1) out.1 (record_kind out.2)), data_fault rs out.1 out.2 fault within refl)
+            | inr over ↦ (refusal (range_line (over.0 + 1) channel), over_range rs over.0 fault.first fault.present over.1 refl)
           ]
     ]
 
-check_due : (c : Config) (bytes : List ℕ) → HasAnswer (IsDueForCheck c bytes)
-check_due c bytes =
+summary_due : (c : Config) (bytes : List ℕ) → HasOutcome (IsDueForSummary c bytes)
+summary_due c bytes =
     elim (accepted_or_first_fault (layout_of c []) bytes) [
-      | inl is ↦ (0, check_text c (record_at is.0 0).number, checked is.0 is.1 refl refl)
-      | inr out ↦ (2, data_line (length out.3.0 + 1) out.1 (record_kind out.2), file_fault out.3.0 out.1 out.2 out.3.2 refl refl)
+      | inl is ↦ (completed (check_text c (record_at is.0 0).number), checked is.0 is.1 refl)
+      | inr out ↦ (refusal (data_line (length out.3.0 + 1) out.1 (record_kind out.2)), file_fault out.3.0 out.1 out.2 out.3.2 refl)
     ]
 
--- ---- the rows
+-- ---- the commands
 
-levels_answer : (words : List (List ℕ)) (files : List ℕ → List ℕ) (channel nominal uncertainty : ℕ) → IsLevels words channel nominal uncertainty → HasAnswer (IsDue words files)
-levels_answer words files channel nominal uncertainty asks =
-    elim (configuration_cases (files (configuration_name words))) [
-      | inr out ↦ (2, out.0, configuration (inl (channel, nominal, uncertainty, asks)) out.1 refl)
-      | inl is ↦ elim (channel_cases is.0 channel asks.channel_word.at_least) [
-        | inr fails ↦ (2, match_line fails.0, match channel nominal uncertainty is.0 fails.0 asks is.1 fails.1 refl refl)
-        | inl matched ↦
-            let due = levels_due channel nominal uncertainty is.0 matched.0 matched.1 (files (data_name words)) (omega (arith, asks.nominal_word.at_least)) in
-            (due.0, due.1, levels channel nominal uncertainty is.0 matched.0 matched.1 asks is.1 matched.2 due.2)
+levels_due : (command : LevelsCommand) (bytes rest : List ℕ) → 1 ≤ command.channel → 0 < command.supply.nominal_mv → HasOutcome (IsDueForLevels command bytes rest)
+levels_due command bytes rest channel nominal =
+    elim (configuration_cases bytes) [
+      | inr out ↦ (refusal out.0, no_configuration out.0 out.1 refl)
+      | inl is ↦ elim (match_cases is.0 command.channel channel) [
+        | inr fails ↦ (refusal (match_line fails.0), no_match is.0 fails.0 is.1 fails.1 refl)
+        | inl found ↦
+            let due = recording_due command.channel command.supply.nominal_mv command.supply.uncertainty_uv is.0 found.0 found.1 rest nominal in
+            (due.0, matched is.0 found.0 found.1 is.1 found.2 due.1)
       ]
     ]
 
-pub some_answer : (words : List (List ℕ)) (files : List ℕ → List ℕ) → (status : ℕ) × (text : List ℕ) × IsDue words files status text
+check_due : (bytes rest : List ℕ) → HasOutcome (IsDueForCheck bytes rest)
+check_due bytes rest =
+    elim (configuration_cases bytes) [
+      | inr out ↦ (refusal out.0, unread out.0 out.1 refl)
+      | inl is ↦
+          let due = summary_due is.0 rest in
+          (due.0, read is.0 is.1 due.1)
+    ]
+
+command_due : (words : List (List ℕ)) (files : Files) (q : Command) → Asks words q → HasOutcome (IsDueFor q (map files (inputs_of q words)))
+command_due words files (Levels command) asks =
+    levels_due command (files (configuration_name words)) (files (data_name words)) asks.channel_word.at_least (omega (arith, asks.nominal_word.at_least))
+command_due words files Check asks = check_due (files (configuration_name words)) (files (data_name words))
+command_due words files (Tables lamp rate) asks = tables_due lamp rate
+
+pub some_answer : (words : List (List ℕ)) (files : Files) → (o : Outcome) × IsDue words files o
 some_answer words files =
-    elim (asked words) [
-      | nothing none ↦ (2, usage_line, usage none refl refl)
-      | for_levels channel nominal uncertainty asks ↦ levels_answer words files channel nominal uncertainty asks
-      | for_check asks ↦ elim (configuration_cases (files (configuration_name words))) [
-        | inr out ↦ (2, out.0, configuration (inr asks) out.1 refl)
-        | inl is ↦
-            let due = check_due is.0 (files (data_name words)) in
-            (due.0, due.1, check is.0 asks is.1 due.2)
-      ]
-      | for_tables lamp asks ↦
-          let due = tables_due lamp in
-          (due.0, due.1, tables lamp asks due.2)
+    elim (asked_for words) [
+      | inr none ↦ (refusal usage_line, usage none refl)
+      | inl found ↦
+          let due = command_due words files found.0 found.1 in
+          (due.0, asked found.0 found.1 due.1)
     ]

@@ -1,12 +1,10 @@
 -- Files that are accepted have one answer, which tells their levels.
-use Rattle.std.proofs.Common.{◌≡◌, ℕ, ◌<◌, List, [], ◌∷◌, length, pos, refl, sym, ap, ◌∙◌, subst, arith, ⊎_elim, inl, inr}
+use Rattle.std.proofs.Common.{◌≡◌, ℕ, ◌<◌, List, [], ◌∷◌, length, map, pos, refl, sym, ap, ◌∙◌, subst, arith, ⊎_elim, inl, inr}
 use Rattle.std.proofs.lemmas.Bool.{cases_lt}
-use Rattle.std.proofs.lemmas.Int.{ints}
 use Rattle.std.proofs.lemmas.List.{length-map, get_or-map}
 use Rattle.flk_exact.specs.Fraction.{Fraction, whole}
-use Rattle.flk_num.specs.Lamp.{half_of}
+use Rattle.flk_num.specs.Rate.{half_at}
 use Rattle.flk_num.specs.declared.lamp.Lamp.{Lamp}
-use Rattle.flk_num.specs.declared.lamp.Lamp.TheVariants.{L230, L120}
 use Rattle.flk_cfg.specs.declared.config.Analog.{Analog}
 use Rattle.flk_cfg.specs.declared.config.Config.{Config}
 use Rattle.flk_cfg.proofs.ConfigLaws.{one_config, config_or_fault}
@@ -17,31 +15,22 @@ use Rattle.flk_dat.specs.declared.kind.Kind.{Kind}
 use Rattle.flk_dat.proofs.Sequences.{follows_at}
 use Rattle.flk_dat.proofs.RecordLaws.{record_or_fault}
 use Rattle.flk_dat.proofs.FileLaws.{each_once, file_once, accepted_or_fault_after}
-use Rattle.flk_top.specs.Command.{IsNumberIn, IsLevels, IsCheck, IsTables, configuration_name, data_name}
-use Rattle.flk_scale.specs.Channel.{IsChannel, IsFrequencyOf}
+use Rattle.flk_scale.proofs.MatchingLemmas.{one_channel, measured_has_no_fault, one_lamp}
+use Rattle.flk_top.specs.Command.{Asks, inputs_of, configuration_name, data_name}
+use Rattle.flk_top.specs.Configuration.{IsConfiguration, IsConfigurationFault, too_long, first_fault}
 use Rattle.flk_top.specs.Matching.{Matches, IsMatchFault, sample_of, recorded_voltages}
-use Rattle.flk_top.specs.Levels.{voltage_at, IsFirstOver, IsWithinRange, AreLevels}
-use Rattle.flk_top.specs.Faults.{IsConfigurationFault, too_long, first_fault}
-use Rattle.flk_top.specs.Answer.{IsConfiguration, IsDueForLevels, data_fault, over_range, measured, IsDue, usage, configuration, match, levels, check, tables, AreAccepted}
-use Rattle.flk_top.specs.Headline.{TellsLevels}
-use Rattle.flk_top.specs.declared.matching.MatchFault.{MatchFault}
-use Rattle.flk_top.specs.declared.matching.MatchFault.TheVariants as faults
-
--- ---- words
-
--- words of one command are none of another, which have other counts
-pub levels_or_check : (words : List (List ℕ)) (c v u : ℕ) → IsLevels words c v u → IsCheck words → ⊥
-levels_or_check words c v u h k = absurd (omega (arith, h.count, k.count))
-
-pub levels_or_tables : (words : List (List ℕ)) (c v u : ℕ) (lamp : Lamp) → IsLevels words c v u → IsTables words lamp → ⊥
-levels_or_tables words c v u lamp h k = absurd (omega (arith, h.count, k.count))
-
-pub check_or_tables : (words : List (List ℕ)) (lamp : Lamp) → IsCheck words → IsTables words lamp → ⊥
-check_or_tables words lamp h k = absurd (omega (arith, h.count, k.count))
-
--- a word has one number
-pub one_number : (low high a b : ℕ) (word : List ℕ) (m n : ℕ) → IsNumberIn low high word m → IsNumberIn a b word n → m ≡ n
-one_number low high a b word m n h k = sym h.number.value ∙ k.number.value
+use Rattle.flk_scale.specs.Range.{voltage_at, IsFirstOver, IsWithinRange}
+use Rattle.flk_top.specs.Levels.{AreLevels}
+use Rattle.flk_top.specs.LevelsDue.{IsDueForRecording, data_fault, over_range, measured, IsDueForLevels, no_configuration, no_match, matched}
+use Rattle.flk_top.specs.Outcome.{Outcome, completed}
+use Rattle.flk_top.specs.Text.{levels_text}
+use Rattle.flk_top.specs.Told.{Files}
+use Rattle.flk_top.specs.Answer.{IsDueFor, IsDue, usage, asked}
+use Rattle.flk_top.specs.Headline.{MeasuredRecording, AreAccepted, TellsLevels}
+use Rattle.flk_top.specs.declared.command.Command.{Command}
+use Rattle.flk_top.specs.declared.command.Command.TheVariants.{Levels}
+use Rattle.flk_scale.specs.declared.fault.MatchFault.{MatchFault}
+use Rattle.flk_top.proofs.OneCommand.{one_command}
 
 -- ---- the configuration
 
@@ -53,27 +42,10 @@ configuration_or_fault bytes text c is (first_fault line field kind small fault 
 pub one_configuration : (bytes : List ℕ) (c d : Config) → IsConfiguration bytes c → IsConfiguration bytes d → c ≡ d
 one_configuration bytes c d h k = one_config bytes c d h.writes k.writes
 
--- a channel is one
-pub one_channel : (c : Config) (channel : ℕ) (a b : Analog) → IsChannel c channel a → IsChannel c channel b → a ≡ b
-one_channel c channel a b h k = sym (h.is a) ∙ k.is a
-
--- a frequency has one lamp
-pub one_lamp_of : (x y : Lamp) (c : Config) → IsFrequencyOf x c.lf.n → IsFrequencyOf y c.lf.n → x ≡ y
-one_lamp_of L230 L230 c h k = refl
-one_lamp_of L230 L120 c h k = absurd (omega (arith, ints, h, k))
-one_lamp_of L120 L230 c h k = absurd (omega (arith, ints, h, k))
-one_lamp_of L120 L120 c h k = refl
-
 -- a channel that can be measured fails no test
 pub match_or_fault : (c : Config) (channel : ℕ) (a : Analog) (lamp : Lamp) (fault : MatchFault) → Matches c channel a lamp → IsMatchFault c channel fault → ⊥
-match_or_fault c channel a lamp (faults.Channel asked there) h f = absurd (omega (arith, f.0, h.there.within))
-match_or_fault c channel a lamp (faults.Unit number) h f =
-    let same = one_channel c channel f.1 a f.2 h.there in
-    f.3 (rw same h.scale.unit)
-match_or_fault c channel a lamp (faults.Scale number) h f =
-    let same = one_channel c channel f.1 a f.2 h.there in
-    f.4 (rw same h.scale.small)
-match_or_fault c channel a lamp (faults.Lamp lf) h f = f.4 lamp h.frequency
+match_or_fault c channel a lamp fault h (inl fails) = measured_has_no_fault c channel fault (a, h.there, h.scale) fails
+match_or_fault c channel a lamp fault h (inr fails) = fails.1.1 lamp h.frequency
 
 -- ---- the data
 
@@ -141,60 +113,67 @@ one_over l bytes a channel nominal rs ss i j p q h k =
 
 -- ---- the answer
 
--- a configuration and a number have one channel and one lamp
-pub one_match : (c d : Config) (p q : ℕ) (a b : Analog) (m n : Lamp) → c ≡ d → p ≡ q → Matches c p a m → Matches d q b n → (a ≡ b) × (m ≡ n)
-one_match c d p q a b m n same number h k =
-    let moved = subst (λ x. Matches x q a m) same (subst (λ x. Matches c x a m) number h) in
-    (one_channel d q a b moved.there k.there, one_lamp_of m n d moved.frequency k.frequency)
+-- a configuration has one channel of a number, and one lamp
+pub one_match : (c d : Config) (channel : ℕ) (a b : Analog) (m n : Lamp) → c ≡ d → Matches c channel a m → Matches d channel b n → (a ≡ b) × (m ≡ n)
+one_match c d channel a b m n same h k =
+    let moved = subst (λ x. Matches x channel a m) same h in
+    (one_channel d channel a b moved.there k.there, one_lamp d.lf.n m n moved.frequency k.frequency)
 
-pub due_moved : (c d v w u z : ℕ) (x y : Config) (a b : Analog) (m n : Lamp) (bytes : List ℕ) (s : ℕ) (t : List ℕ) → c ≡ d → v ≡ w → u ≡ z → x ≡ y → a ≡ b → m ≡ n
-    → IsDueForLevels c v u x a m bytes s t → IsDueForLevels d w z y b n bytes s t
-due_moved c d v w u z x y a b m n bytes s t p q r e f g h =
-    subst (λ (i : Lamp). IsDueForLevels d w z y b i bytes s t) g
-    (subst (λ (i : Analog). IsDueForLevels d w z y i m bytes s t) f
-    (subst (λ (i : Config). IsDueForLevels d w z i a m bytes s t) e
-    (subst (λ (i : ℕ). IsDueForLevels d w i x a m bytes s t) r (subst (λ (i : ℕ). IsDueForLevels d i u x a m bytes s t) q (subst (λ (i : ℕ). IsDueForLevels i v u x a m bytes s t) p h)))))
-
--- two rows of `levels` speak of one channel and one supply
-pub same_levels : (words : List (List ℕ)) (bytes rest : List ℕ) (c v u d w z : ℕ) (x y : Config) (a b : Analog) (m n : Lamp) (s : ℕ) (t : List ℕ) → IsLevels words c v u → IsLevels words d w z
-    → IsConfiguration bytes x → IsConfiguration bytes y → Matches x c a m → Matches y d b n → IsDueForLevels c v u x a m rest s t → IsDueForLevels d w z y b n rest s t
-same_levels words bytes rest c v u d w z x y a b m n s t h k is that matches others told =
-    let number = one_number _ _ _ _ _ c d h.channel_word k.channel_word in
-    let same = one_configuration bytes x y is that in
-    let both = one_match x y c d a b m n same number matches others in
-    due_moved c d v w u z x y a b m n rest s t number (one_number _ _ _ _ _ v w h.nominal_word k.nominal_word) (one_number _ _ _ _ _ u z h.uncertainty_word k.uncertainty_word) same both.0 both.1 told
+pub recording_moved : (channel nominal uncertainty : ℕ) (x y : Config) (a b : Analog) (m n : Lamp) (bytes : List ℕ) (o : Outcome) → x ≡ y → a ≡ b → m ≡ n
+    → IsDueForRecording channel nominal uncertainty x a m bytes o → IsDueForRecording channel nominal uncertainty y b n bytes o
+recording_moved channel nominal uncertainty x y a b m n bytes o e f g h =
+    subst (λ (i : Lamp). IsDueForRecording channel nominal uncertainty y b i bytes o) g
+    (subst (λ (i : Analog). IsDueForRecording channel nominal uncertainty y i m bytes o) f
+    (subst (λ (i : Config). IsDueForRecording channel nominal uncertainty i a m bytes o) e h))
 
 -- a channel that is measured has no fault of the tests
-pub measured_or_fault : (words : List (List ℕ)) (bytes : List ℕ) (c v u d w z : ℕ) (x y : Config) (a : Analog) (m : Lamp) (fault : MatchFault) → IsLevels words c v u → IsLevels words d w z
-    → IsConfiguration bytes x → IsConfiguration bytes y → Matches x c a m → IsMatchFault y d fault → ⊥
-measured_or_fault words bytes c v u d w z x y a m fault h k is that matches failed =
-    let number = one_number _ _ _ _ _ c d h.channel_word k.channel_word in
-    let same = one_configuration bytes x y is that in
-    match_or_fault y d a m fault (subst (λ i. Matches i d a m) same (subst (λ i. Matches x i a m) number matches)) failed
+pub measured_or_fault : (bytes : List ℕ) (channel : ℕ) (x y : Config) (a : Analog) (m : Lamp) (fault : MatchFault)
+    → IsConfiguration bytes x → IsConfiguration bytes y → Matches x channel a m → IsMatchFault y channel fault → ⊥
+measured_or_fault bytes channel x y a m fault is that matches failed =
+    match_or_fault y channel a m fault (subst (λ i. Matches i channel a m) (one_configuration bytes x y is that) matches) failed
 
-accepted_levels : (channel nominal uncertainty : ℕ) (c : Config) (a : Analog) (lamp : Lamp) (bytes : List ℕ) (rs : List DataRecord) (s : ℕ) (t : List ℕ) → IsAccepted (layout_of c (channel ∷ [])) bytes rs
-    → IsWithinRange nominal (recorded_voltages a channel rs) → IsDueForLevels channel nominal uncertainty c a lamp bytes s t → TellsLevels channel (half_of lamp) nominal uncertainty (recorded_voltages a channel rs) s t
-accepted_levels channel nominal uncertainty c a lamp bytes rs s t is within (data_fault ss field kind fault fine status text) =
-    absurd (accepted_or_fault_after (layout_of c (channel ∷ [])) bytes rs ss field kind is fault)
-accepted_levels channel nominal uncertainty c a lamp bytes rs s t is within (over_range ss i first present over status text) =
-    absurd (over_or_accepted (layout_of c (channel ∷ [])) bytes a channel nominal ss rs i first is over within)
-accepted_levels channel nominal uncertainty c a lamp bytes rs s t is within (measured ss found that fine are status text) =
-    let same = file_once (layout_of c (channel ∷ [])) bytes ss rs that.file is.file in
+-- two readings of one configuration have one channel to measure
+pub same_recording : (bytes rest : List ℕ) (channel nominal uncertainty : ℕ) (x y : Config) (a b : Analog) (m n : Lamp) (o : Outcome)
+    → IsConfiguration bytes x → IsConfiguration bytes y → Matches x channel a m → Matches y channel b n
+    → IsDueForRecording channel nominal uncertainty x a m rest o → IsDueForRecording channel nominal uncertainty y b n rest o
+same_recording bytes rest channel nominal uncertainty x y a b m n o is that matches others told =
+    let same = one_configuration bytes x y is that in
+    let both = one_match x y channel a b m n same matches others in
+    recording_moved channel nominal uncertainty x y a b m n rest o same both.0 both.1 told
+
+-- the status and the text of an outcome that is done
+done_is : (o : Outcome) (text : List ℕ) → o ≡ completed text → (o.status ≡ 0) × (o.text ≡ text)
+done_is o text is = (ap (λ (p : Outcome). p.status) is, ap (λ (p : Outcome). p.text) is)
+
+recording_told : (m : MeasuredRecording) (bytes : List ℕ) (o : Outcome) → IsAccepted (layout_of m.configuration (m.command.channel ∷ [])) bytes m.records
+    → IsWithinRange m.command.supply.nominal_mv (recorded_voltages m.analog m.command.channel m.records)
+    → IsDueForRecording m.command.channel m.command.supply.nominal_mv m.command.supply.uncertainty_uv m.configuration m.analog m.lamp bytes o → TellsLevels m o.status o.text
+recording_told m bytes o is within (data_fault ss field kind fault fine refused) =
+    absurd (accepted_or_fault_after (layout_of m.configuration (m.command.channel ∷ [])) bytes m.records ss field kind is fault)
+recording_told m bytes o is within (over_range ss i first present over refused) =
+    absurd (over_or_accepted (layout_of m.configuration (m.command.channel ∷ [])) bytes m.analog m.command.channel m.command.supply.nominal_mv ss m.records i first is over within)
+recording_told m bytes o is within (measured ss found that fine are done) =
+    let same = file_once (layout_of m.configuration (m.command.channel ∷ [])) bytes ss m.records that.file is.file in
+    let told = done_is o (levels_text m.command.channel found) done in
     record {
       levels = found;
-      are_levels = subst (λ xs. AreLevels (half_of lamp) nominal uncertainty (recorded_voltages a channel xs) found) same are;
-      status_is = status;
-      text_is = text;
+      are_levels = subst (λ xs. AreLevels (half_at m.lamp m.configuration.rate) m.command.supply.nominal_mv m.command.supply.uncertainty_uv (recorded_voltages m.analog m.command.channel xs) found) same are;
+      status_is = told.0;
+      text_is = told.1;
     }
 
-pub tells_levels : (words : List (List ℕ)) (files : List ℕ → List ℕ) (channel nominal uncertainty : ℕ) (c : Config) (a : Analog) (lamp : Lamp) (rs : List DataRecord) (s : ℕ) (t : List ℕ)
-    → AreAccepted words files channel nominal uncertainty c a lamp rs → IsDue words files s t → TellsLevels channel (half_of lamp) nominal uncertainty (recorded_voltages a channel rs) s t
-tells_levels words files channel nominal uncertainty c a lamp rs s t h (usage none status text) = absurd (none.no_levels channel nominal uncertainty h.asks)
-tells_levels words files channel nominal uncertainty c a lamp rs s t h (configuration asks fault status) = absurd (configuration_or_fault (files (configuration_name words)) t c h.configuration fault)
-tells_levels words files channel nominal uncertainty c a lamp rs s t h (match d w z y fault asks is failed status text) =
-    absurd (measured_or_fault words (files (configuration_name words)) channel nominal uncertainty d w z c y a lamp fault h.asks asks h.configuration is h.matches failed)
-tells_levels words files channel nominal uncertainty c a lamp rs s t h (levels d w z y b n asks is matches told) =
-    accepted_levels channel nominal uncertainty c a lamp (files (data_name words)) rs s t h.data_file h.within
-    (same_levels words (files (configuration_name words)) (files (data_name words)) d w z channel nominal uncertainty y c b a n lamp s t asks h.asks is h.configuration matches h.matches told)
-tells_levels words files channel nominal uncertainty c a lamp rs s t h (check d asks is told) = absurd (levels_or_check words channel nominal uncertainty h.asks asks)
-tells_levels words files channel nominal uncertainty c a lamp rs s t h (tables other asks told) = absurd (levels_or_tables words channel nominal uncertainty other h.asks asks)
+levels_told : (words : List (List ℕ)) (files : Files) (m : MeasuredRecording) (o : Outcome) → AreAccepted words files m
+    → IsDueForLevels m.command (files (configuration_name words)) (files (data_name words)) o → TellsLevels m o.status o.text
+levels_told words files m o h (no_configuration line fault refused) = absurd (configuration_or_fault (files (configuration_name words)) line m.configuration h.configuration fault)
+levels_told words files m o h (no_match c fault is failed refused) =
+    absurd (measured_or_fault (files (configuration_name words)) m.command.channel m.configuration c m.analog m.lamp fault h.configuration is h.matches failed)
+levels_told words files m o h (matched c a lamp is matches due) =
+    recording_told m (files (data_name words)) o h.data_file h.within
+    (same_recording (files (configuration_name words)) (files (data_name words)) m.command.channel m.command.supply.nominal_mv m.command.supply.uncertainty_uv c m.configuration a m.analog lamp m.lamp o
+    is h.configuration matches h.matches due)
+
+pub tells_levels : (words : List (List ℕ)) (files : Files) (m : MeasuredRecording) (o : Outcome) → AreAccepted words files m → IsDue words files o → TellsLevels m o.status o.text
+tells_levels words files m o h (usage none refused) = absurd (none (Levels m.command) h.asks)
+tells_levels words files m o h (asked q asks due) =
+    let P : Command → Type 0 = λ p. IsDueFor p (map files (inputs_of p words)) o in
+    levels_told words files m o h (subst P (one_command words q (Levels m.command) asks h.asks) due)

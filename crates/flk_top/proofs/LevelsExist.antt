@@ -1,12 +1,10 @@
--- Recorded voltages have levels, and a first voltage over range or none.
+-- Recorded voltages have levels.
 use Rattle.std.proofs.Common.{◌≡◌, ◌⊎◌, ℕ, zero, suc, ◌*◌, ◌/◌, ◌^◌, ◌<◌, ◌≤◌, List, [], ◌∷◌, length, map, ℤ, pos, ◌+ℤ◌, ◌-ℤ◌, ◌*ℤ◌, ◌≤ℤ◌, Option, Some, None, refl, subst, arith, inl, inr}
 use Rattle.std.specs.Prelude.{negsuc}
-use Rattle.std.specs.Int.RustNames.{unsigned_abs}
 use Rattle.std.specs.List.{AllZip}
 use Rattle.std.proofs.Math.Nat.{mul-pos}
 use Rattle.std.proofs.lemmas.Int.{ints}
 use Rattle.std.proofs.lemmas.Nat.{mul-le}
-use Rattle.std.proofs.lemmas.Bool.{cases_lt}
 use Rattle.std.proofs.lemmas.List.Sums.{sum_by-cons}
 use Rattle.flk_exact.specs.Fraction.{Fraction}
 use Rattle.flk_exact.specs.Rounding.{IsFloor, IsCeil, floor_of, ceil_of}
@@ -18,11 +16,11 @@ use Rattle.flk_exact.proofs.RoundingLemmas.{IsFloor-floor_of, IsCeil-at}
 use Rattle.flk_exact.specs.Cut.{half_periods}
 use Rattle.flk_num.specs.declared.interval.Interval.{Interval}
 use Rattle.flk_num.specs.Square.{least_size, greatest_size, least_squares, greatest_squares}
-use Rattle.flk_scale.specs.Voltage.{is_below_zero, IsVoltageInterval, IsOverRange}
+use Rattle.flk_scale.specs.Voltage.{is_below_zero, IsVoltageInterval}
 use Rattle.flk_scale.proofs.ScaleLemmas.{ends_order}
 use Rattle.flk_half.specs.Cutter.{IsValueAt, IsHalfPeriodInterval}
 use Rattle.flk_half.proofs.CutterLemmas.{root_value, values_≤}
-use Rattle.flk_top.specs.Levels.{voltage_at, IsFirstOver, IsWithinRange, AreExtremeIntervalsIfAny, AreLevels}
+use Rattle.flk_top.specs.Levels.{AreExtremeIntervalsIfAny, AreLevels}
 use Rattle.flk_top.specs.declared.measure.Levels.{Levels}
 use Rattle.flk_top.specs.declared.measure.Extremes.{Extremes}
 use Rattle.flk_top.proofs.LevelsLemmas.{are_extremes_if_any}
@@ -106,29 +104,3 @@ levels_exist half nominal uncertainty recorded some high =
         extremes = are_extremes_if_any half nominal uncertainty recorded voltages.0 cuts.0 intervals.0 e.0 some high cuts.1 voltages.1 intervals.1 e.1;
       },
     )
-
--- ---- voltages over range
-
--- the first n are within range, or there is a first one that isn't
-over_from : (nominal : ℕ) (recorded : List Fraction) (n : ℕ) → n ≤ length recorded → ((k : ℕ) → k < n → ¬ IsOverRange nominal (voltage_at recorded k)) ⊎ ((i : ℕ) × IsFirstOver nominal recorded i)
-over_from nominal recorded zero most = inl (λ k less. absurd (omega (arith, less)))
-over_from nominal recorded (suc n) most =
-    elim (over_from nominal recorded n (omega (arith, most))) [
-      | inr first ↦ inr first
-      | inl so ↦
-          let v = voltage_at recorded n in
-          elim (cases_lt (4 * (1000 * nominal) * v.den) (unsigned_abs v.num)) [
-            | inl over ↦ inr (n, record { there = omega (arith, most); over = over; first = so })
-            | inr fine ↦ inl (λ k less.
-                elim (cases_lt k n) [
-                  | inl before ↦ so k before
-                  | inr last ↦
-                      let same : n ≡ k = omega (arith, less, last) in
-                      let P : ℕ → Type 0 = λ j. ¬ IsOverRange nominal (voltage_at recorded j) in
-                      subst P same (λ over. omega (arith, over, fine))
-                ])
-          ]
-    ]
-
-pub over_cases : (nominal : ℕ) (recorded : List Fraction) → IsWithinRange nominal recorded ⊎ ((i : ℕ) × IsFirstOver nominal recorded i)
-over_cases nominal recorded = over_from nominal recorded (length recorded) (omega arith)

@@ -1,16 +1,20 @@
 pub mod LevelsLemmas
 mod WidenedLemmas
 mod MeasureLemmas
-mod ReadingLemmas
+mod BlocksLemmas
 mod Words
-mod Digits
 mod PlainTexts
+mod AgreeingFiles
+mod OneCommand
+mod Outcomes
 mod TablesLemmas
 mod LevelsOnce
 mod Replies
+mod HonestReplies
 mod DataReplies
 mod Headline
 mod OneAnswerLemmas
 mod LevelsExist
 mod WordCases
 mod AnswerExists
+mod RunLemmas

@@ -9,7 +9,9 @@ use Rattle.flk_exact.specs.Fraction.{Fraction, whole}
 use Rattle.flk_exact.specs.Cut.{AreCuts, half_periods, last_cut}
 use Rattle.flk_exact.proofs.ListLemmas.{AllZip-push, slice_range-append}
 use Rattle.flk_exact.proofs.CutLemmas.{half_periods-append, half_periods-push, AreCuts-below}
-use Rattle.flk_num.specs.Lamp.{half_of}
+use Rattle.flk_num.specs.Rate.{half_at}
+use Rattle.flk_num.specs.declared.rate.Rate.{Rate}
+use Rattle.flk_num.specs.declared.rate.Rate.TheVariants.{R2400, R4800}
 use Rattle.flk_num.specs.declared.lamp.Lamp.{Lamp}
 use Rattle.flk_num.specs.declared.lamp.Lamp.TheVariants.{L230, L120}
 use Rattle.flk_num.specs.declared.interval.Interval.{Interval}
@@ -17,8 +19,9 @@ use Rattle.flk_scale.specs.Voltage.{is_below_zero, IsVoltageInterval, IsOverRang
 use Rattle.flk_scale.specs.Scale.{nominal_of, uncertainty_of, voltage_of}
 use Rattle.flk_half.specs.Cutter.{IsHalfPeriodInterval, Continues, EndsHalfPeriod}
 use Rattle.flk_dat.specs.Records.{DataRecord, record_at, no_record}
-use Rattle.flk_top.specs.Levels.{AreExtremeIntervalsIfAny, Gains, AreLevels, IsFirstOver, IsWithinRange, voltage_at}
-use Rattle.flk_top.specs.Measuring.{told_voltage, HasMeasured, IsSameMeasurement}
+use Rattle.flk_scale.specs.Range.{IsFirstOver, IsWithinRange, voltage_at}
+use Rattle.flk_top.specs.Levels.{AreExtremeIntervalsIfAny, Gains, AreLevels}
+use Rattle.flk_top.specs.Measuring.{half_of, told_voltage, HasMeasured, IsSameMeasurement}
 use Rattle.flk_top.specs.declared.measure.Levels.{Levels}
 use Rattle.flk_top.specs.declared.measure.Measure.{Measure}
 use Rattle.flk_top.specs.declared.matching.Matched.{Matched}
@@ -73,8 +76,8 @@ measured_continues old new recorded x v h matched taken levels fine is step =
       cuts = h.cuts;
       intervals = h.intervals;
       are_voltages = rw matched (AllZip-push (IsVoltageInterval (nominal_of m.scale) (uncertainty_of m.scale)) recorded h.voltages x v h.are_voltages is);
-      stands = rw (matched, signs) (step (half_of m.lamp) (map is_below_zero recorded) h.voltages h.cuts h.stands);
-      are_intervals = rw (matched, parts_more (half_of m.lamp) (map is_below_zero recorded) h.voltages h.cuts v h.stands.are_cuts h.stands.same_length) h.are_intervals;
+      stands = rw (matched, signs) (step (half_of m) (map is_below_zero recorded) h.voltages h.cuts h.stands);
+      are_intervals = rw (matched, parts_more (half_of m) (map is_below_zero recorded) h.voltages h.cuts v h.stands.are_cuts h.stands.same_length) h.are_intervals;
       count = ap (λ (l : Levels). l.count) levels ∙ h.count;
       extremes = subst (λ (l : Levels). AreExtremeIntervalsIfAny h.intervals l.extremes) (sym levels) h.extremes;
       within = rw matched (within_more (nominal_of m.scale) recorded x h.within fine);
@@ -88,7 +91,7 @@ pub measured_ends : (old new : Measure) (recorded : List Fraction) (x : Fraction
 measured_ends old new recorded x v value h matched taken gains fine is step =
     let signs = map-append is_below_zero recorded (x ∷ []) in
     let m = old.matched in
-    let half = half_of m.lamp in
+    let half = half_of m in
     let ends = step half (map is_below_zero recorded) h.voltages h.cuts h.stands in
     let parts = parts_push half (map is_below_zero recorded) h.voltages h.cuts v h.stands.are_cuts h.stands.same_length in
     record {
@@ -111,18 +114,20 @@ pub measured_more : (old new : Measure) (recorded : List Fraction) (x : Fraction
 measured_more old new recorded x v None h matched taken gains fine is continues ends = measured_continues old new recorded x v h matched taken gains fine is continues
 measured_more old new recorded x v (Some value) h matched taken gains fine is continues ends = measured_ends old new recorded x v value h matched taken gains fine is ends
 
-pub half_some : (lamp : Lamp) → 0 < half_of lamp
-half_some L230 = omega arith
-half_some L120 = omega arith
+pub half_some : (lamp : Lamp) (rate : Rate) → 0 < half_at lamp rate
+half_some L230 R2400 = omega arith
+half_some L120 R2400 = omega arith
+half_some L230 R4800 = omega arith
+half_some L120 R4800 = omega arith
 
 -- at the end these are the levels
 pub measured_levels : (m : Measure) (recorded : List Fraction) → 0 < nominal_of m.matched.scale → HasMeasured m recorded
-    → AreLevels (half_of m.matched.lamp) (nominal_of m.matched.scale) (uncertainty_of m.matched.scale) recorded m.levels
+    → AreLevels (half_of m.matched) (nominal_of m.matched.scale) (uncertainty_of m.matched.scale) recorded m.levels
 measured_levels m recorded high h = record {
   cuts = h.cuts;
   are_cuts = h.stands.are_cuts;
   count = h.count;
-  extremes = are_extremes_if_any (half_of m.matched.lamp) (nominal_of m.matched.scale) (uncertainty_of m.matched.scale) recorded h.voltages h.cuts h.intervals m.levels.extremes (half_some m.matched.lamp) high h.stands.are_cuts h.are_voltages h.are_intervals h.extremes;
+  extremes = are_extremes_if_any (half_of m.matched) (nominal_of m.matched.scale) (uncertainty_of m.matched.scale) recorded h.voltages h.cuts h.intervals m.levels.extremes (half_some m.matched.lamp m.matched.rate) high h.stands.are_cuts h.are_voltages h.are_intervals h.extremes;
 }
 
 -- ---- the records of a block
@@ -156,46 +161,33 @@ first_over nominal front v back within over =
           (subst (IsOverRange nominal) (get_or_append_left (front ++ v ∷ []) back (whole (pos 0)) k (omega (arith, few, less)) ∙ voltage_before front v k less) again);
     }
 
-told_split : (f : DataRecord → Fraction) (past rs : List DataRecord) (k : ℕ) → k < length rs
-    → ((map f past ++ map f (take k rs)) ++ f (record_at rs k) ∷ []) ++ map f (drop (k + 1) rs) ≡ map f (past ++ rs)
-told_split f past rs k less =
+told_split : (f : DataRecord → Fraction) (recorded : List Fraction) (rs : List DataRecord) (k : ℕ) → k < length rs
+    → ((recorded ++ map f (take k rs)) ++ f (record_at rs k) ∷ []) ++ map f (drop (k + 1) rs) ≡ recorded ++ map f rs
+told_split f recorded rs k less =
     let joined : map f (take (k + 1) rs) ++ map f (drop (k + 1) rs) ≡ map f rs = sym (map-append f (take (k + 1) rs) (drop (k + 1) rs)) ∙ ap (map f) (take-append-drop (k + 1) rs) in
-    rw (told_more f (map f past) rs k less, map-append f past rs) (append_assoc (map f past) (map f (take (k + 1) rs)) (map f (drop (k + 1) rs)) ∙ ap (λ ys. map f past ++ ys) joined)
+    rw (told_more f recorded rs k less) (append_assoc recorded (map f (take (k + 1) rs)) (map f (drop (k + 1) rs)) ∙ ap (λ ys. recorded ++ ys) joined)
 
-pub refused_record : (m now : Measure) (past rs : List DataRecord) (k i : ℕ) (x : ℤ) → IsSameMeasurement m now → HasMeasured now (map (told_voltage m) past ++ map (told_voltage m) (take k rs))
+-- a record over range is the first
+pub over_record : (m now : Measure) (recorded : List Fraction) (rs : List DataRecord) (k i : ℕ) (x : ℤ) → IsSameMeasurement m now → HasMeasured now (recorded ++ map (told_voltage m) (take k rs))
     → k < length rs → x ≡ slice_index_or (record_at rs k).analog now.channel (pos 0) → IsOverRange (nominal_of now.matched.scale) (voltage_of now.matched.scale x) → i ≡ now.taken
-    → IsFirstOver (nominal_of m.matched.scale) (map (told_voltage m) (past ++ rs)) i
-refused_record m now past rs k i x same h less is over place =
+    → IsFirstOver (nominal_of m.matched.scale) (recorded ++ map (told_voltage m) rs) i
+over_record m now recorded rs k i x same h less is over place =
     let f = told_voltage m in
     let nominal = nominal_of m.matched.scale in
-    let front = map f past ++ map f (take k rs) in
+    let front = recorded ++ map f (take k rs) in
     let P : Matched → Type 0 = λ a. IsWithinRange (nominal_of a.scale) front in
     let Q : Matched → Type 0 = λ a. IsOverRange (nominal_of a.scale) (voltage_of now.matched.scale x) in
     let there = subst (IsOverRange nominal) (told_of m now (record_at rs k) x same is) (subst Q same.matched over) in
     let first = first_over nominal front (f (record_at rs k)) (map f (drop (k + 1) rs)) (subst P same.matched h.within) there in
-    let R : ℕ → Type 0 = λ n. IsFirstOver nominal (map f (past ++ rs)) n in
-    subst R (sym (place ∙ h.taken)) (subst (λ vs. IsFirstOver nominal vs (length front)) (told_split f past rs k less) first)
+    let R : ℕ → Type 0 = λ n. IsFirstOver nominal (recorded ++ map f rs) n in
+    subst R (sym (place ∙ h.taken)) (subst (λ vs. IsFirstOver nominal vs (length front)) (told_split f recorded rs k less) first)
 
 -- all records of a block
-pub measured_block : (m now : Measure) (past rs : List DataRecord) (k : ℕ) → IsSameMeasurement m now → k ≡ length rs
-    → HasMeasured now (map (told_voltage m) past ++ map (told_voltage m) (take k rs)) → HasMeasured now (map (told_voltage now) (past ++ rs))
-measured_block m now past rs k same all h =
-    let f = told_voltage m in
+pub measured_block : (m now : Measure) (recorded : List Fraction) (rs : List DataRecord) (k : ℕ) → k ≡ length rs
+    → HasMeasured now (recorded ++ map (told_voltage m) (take k rs)) → HasMeasured now (recorded ++ map (told_voltage m) rs)
+measured_block m now recorded rs k all h =
     let whole_block : take k rs ≡ rs = take_all k rs (omega (arith, all)) in
-    let joined : map f past ++ map f (take k rs) ≡ map f (past ++ rs) = rw whole_block (sym (map-append f past rs)) in
-    let told : told_voltage now ≡ f = rw (same.matched, same.channel) refl in
-    rw told (subst (HasMeasured now) joined h)
-
--- what is refused is the same as before
-pub refused_same : (m now : Measure) (rs : List DataRecord) (i : ℕ) → IsSameMeasurement m now → IsFirstOver (nominal_of now.matched.scale) (map (told_voltage now) rs) i
-    → IsFirstOver (nominal_of m.matched.scale) (map (told_voltage m) rs) i
-refused_same m now rs i same h =
-    let told : told_voltage now ≡ told_voltage m = rw (same.matched, same.channel) refl in
-    let P : Matched → Type 0 = λ a. IsFirstOver (nominal_of a.scale) (map (told_voltage m) rs) i in
-    subst P same.matched (subst (λ f. IsFirstOver (nominal_of now.matched.scale) (map f rs) i) told h)
+    rw whole_block at h
 
 pub still_same : (m now next : Measure) → IsSameMeasurement m now → IsSameMeasurement now next → IsSameMeasurement m next
 still_same m now next a b = record { matched = b.matched ∙ a.matched; channel = b.channel ∙ a.channel }
-
-pub same_purpose : (m now : Measure) → IsSameMeasurement m now → ◌≡◌ {A = Matched × ℕ} (now.matched, now.channel) (m.matched, m.channel)
-same_purpose m now same = rw (same.matched, same.channel) refl

@@ -1,174 +1,228 @@
 -- From what was read and found to what is due.
-use Rattle.std.proofs.Common.{◌≡◌, ◌≢◌, ◌⊎◌, inl, inr, ℕ, ◌<◌, ◌≤◌, List, [], ◌++◌, length, Option, Some, None, Result, Ok, Err, IfOk, refl, sym, ap, ◌∙◌, subst, string_bytes, arith}
+use Rattle.std.proofs.Common.{◌≡◌, ◌≢◌, ℕ, zero, suc, ◌<◌, ◌≤◌, List, [], ◌∷◌, ◌++◌, length, length-append, map, ◌+◌, Option, Some, None, Result, Ok, Err, IfOk, refl, sym, ap, ◌∙◌, subst, string_bytes, arith}
+use Rattle.std.specs.Prelude.{slice_index_or, Contains}
+use Rattle.std.specs.List.{AllZip}
 use Rattle.std.proofs.lemmas.List.{append-nil}
-use Rattle.flk_io.specs.Causes.{Rose, OthersStay, AddsFront, TakesAll}
+use Rattle.flk_io.specs.Causes.{TakesAll, TakesFront}
+use Rattle.flk_io.specs.Told.{ShelfTold, OnlyReads, ReadsUnder}
+use Rattle.flk_io.proofs.Told.{OnlyReads-trans}
 use Rattle.flk_num.specs.declared.lamp.Lamp.{Lamp}
 use Rattle.flk_num.specs.declared.stop.Stop.TheVariants.{Fault}
 use Rattle.flk_cfg.specs.File.{IsFileAnswer}
 use Rattle.flk_cfg.specs.declared.config.Analog.{Analog}
 use Rattle.flk_cfg.specs.declared.config.Config.{Config}
+use Rattle.flk_cfg.specs.Kinds.{kind_number}
 use Rattle.flk_cfg.specs.declared.kind.CfgFault.{CfgFault}
-use Rattle.flk_top.specs.Command.{AsksFiles, IsCheck, IsTables, AsksLevels, configuration_name, data_name}
-use Rattle.flk_top.specs.Matching.{IsMatchFault}
+use Rattle.flk_cfg.specs.declared.kind.Kind.TheVariants.{Length}
+use Rattle.flk_top.specs.Answer.{IsDueFor, ComesToTurn}
+use Rattle.flk_top.specs.CheckDue.{IsDueForSummary, IsDueForCheck, no_configuration as unread, read}
+use Rattle.flk_top.specs.Command.{Asks, IsCheck, inputs_of, configuration_name, data_name}
+use Rattle.flk_top.specs.Configuration.{configuration_limit, IsConfiguration, IsConfigurationFault, too_long, first_fault}
+use Rattle.flk_top.specs.Faults.{configuration_line, match_line}
+use Rattle.flk_top.specs.LevelsDue.{IsDueForRecording, IsDueForLevels, no_configuration, no_match, matched}
+use Rattle.flk_top.specs.Matching.{Matches, IsMatchFault}
 use Rattle.flk_top.specs.Measuring.{IsMatched}
-use Rattle.flk_top.specs.Tables.{IsDueForTables}
-use Rattle.flk_top.specs.Faults.{read_line, configuration_line, match_line, configuration_limit, IsConfigurationFault, first_fault}
-use Rattle.flk_top.specs.Answer.{Tells, IsConfiguration, IsDueForLevels, IsDueForCheck, IsDue, configuration, match, levels, check, tables, ReadsData}
-use Rattle.flk_top.specs.Status.{status_number}
-use Rattle.flk_top.specs.Replies.{IsConfigurationReply, IsHonestReply, OnlyReads}
+use Rattle.flk_top.specs.Outcome.{Outcome, refusal}
+use Rattle.flk_top.specs.Replies.{outcome_of, IsExplained, IsHonest, ReadsOnly, AwaitsTurns}
+use Rattle.flk_top.specs.Told.{MayHold}
+use Rattle.flk_top.specs.declared.command.Command.{Command}
+use Rattle.flk_top.specs.declared.command.Command.TheVariants.{Levels, Check}
 use Rattle.flk_top.specs.declared.command.LevelsCommand.{LevelsCommand}
 use Rattle.flk_top.specs.declared.matching.Matched.{Matched}
-use Rattle.flk_top.specs.declared.matching.MatchFault.{MatchFault}
+use Rattle.flk_scale.specs.declared.fault.MatchFault.{MatchFault}
 use Rattle.flk_top.specs.declared.reply.Reply.{Reply}
-use Rattle.flk_top.specs.declared.reply.Status.{Status}
-use Rattle.flk_top.specs.declared.reply.Status.TheVariants.{Done, Refused, ReadFailed}
+use Rattle.flk_top.specs.declared.reply.Status.TheVariants.{Refused, ReadFailed}
+use Rattle.flk_top.proofs.AgreeingFiles.{told_or_none, may_be_told, contains_first, contains_next}
+use Rattle.flk_top.proofs.Outcomes.{is_refusal}
 
--- what was read to its end is what the name held
-pub whole_read : (old new : Option (List ℕ)) (held bytes : List ℕ) → old ≡ Some held → TakesAll old new bytes → bytes ≡ held
-whole_read None new held bytes is took = cc
-whole_read (Some xs) None held bytes is took = absurd took.0
-whole_read (Some xs) (Some ys) held bytes is took =
+-- ---- what was read may be what stands there
+
+-- what was read to its end
+pub all_may_be : (old new : Option (List ℕ)) (bytes : List ℕ) → TakesAll old new bytes → MayHold old bytes
+all_may_be None new bytes took = λ held is. cc
+all_may_be (Some xs) None bytes took = absurd took.0
+all_may_be (Some xs) (Some ys) bytes took = λ held is.
     let same : xs ≡ held = cc in
     let all : xs ≡ bytes ++ [] = rw took.1 at took.0 in
     sym (all ∙ append-nil bytes) ∙ same
 
 -- ---- the configuration
 
--- the reply to the first fault
-pub refused_configuration : (old new : Option (List ℕ)) (bytes held : List ℕ) (fault : CfgFault) (r : Reply) → TakesAll old new bytes → length bytes ≤ configuration_limit
-    → IsFileAnswer bytes (Err (Fault fault)) → (r.status ≡ Refused) × (string_bytes r.text ≡ configuration_line fault.line fault.field fault.kind) → old ≡ Some held → IsConfigurationReply held r
-refused_configuration old new bytes held fault r took small is told there =
-    let P : List ℕ → Type 0 = λ xs. IsConfigurationReply xs r in
-    subst P (whole_read old new held bytes there took)
-    (record { status = told.0; text = first_fault fault.line fault.field is.0 small is.2 (told.1 ∙ ap (λ k. configuration_line fault.line fault.field k) is.1) })
+-- what may be there where more was read than the limit
+too_long_may_be : (old new : Option (List ℕ)) (limit : ℕ) → TakesFront old new (limit + 1) → (bytes : List ℕ) × MayHold old bytes × (limit < length bytes)
+too_long_may_be None new limit took = (took.0, (λ held is. cc), omega (arith, took.1))
+too_long_may_be (Some xs) None limit took = absurd took.2
+too_long_may_be (Some xs) (Some ys) limit took =
+    let count : length xs ≡ length took.0 + length ys = ap length took.2 ∙ length-append took.0 ys in
+    (xs, may_be_told (Some xs), omega (arith, took.1, count))
 
--- the configuration that was read is the one of the files
-was_configuration : (words : List (List ℕ)) (left after : List ℕ → Option (List ℕ)) (name : List ℕ) (c : Config) → name ≡ configuration_name words
-    → (bytes : List ℕ) × TakesAll (left name) (after name) bytes × IsConfiguration bytes c → (files : List ℕ → List ℕ) → Tells left files → IsConfiguration (files (configuration_name words)) c
-was_configuration words left after name c is read files tells =
-    subst (λ (n : List ℕ). IsConfiguration (files n) c) is
-    (subst (λ (xs : List ℕ). IsConfiguration xs c) (whole_read (left name) (after name) (files name) read.0 (tells name) read.1) read.2)
+-- the reply is a refusal of bytes that may stand there
+abbrev pub IsRefusedConfiguration : Option (List ℕ) → Reply → Type 0
+IsRefusedConfiguration left r =
+    (bytes : List ℕ) × (line : List ℕ) × MayHold left bytes × IsConfigurationFault bytes line × (outcome_of r ≡ refusal line)
 
-pub configuration_told : (words : List (List ℕ)) (left : List ℕ → Option (List ℕ)) (name : List ℕ) (r : Reply) → AsksFiles words → name ≡ configuration_name words
-    → (r.status ≢ ReadFailed → (bytes : List ℕ) → left name ≡ Some bytes → IsConfigurationReply bytes r)
-    → r.status ≢ ReadFailed → (files : List ℕ → List ℕ) → Tells left files → IsDue words files (status_number r.status) (string_bytes r.text)
-configuration_told words left name r asks is told fine files tells =
-    let reply = told fine (files name) (tells name) in
-    configuration asks (subst (λ (n : List ℕ). IsConfigurationFault (files n) (string_bytes r.text)) is reply.text) (ap status_number reply.status)
+pub too_long_refused : (left after : Option (List ℕ)) (r : Reply) → TakesFront left after (configuration_limit + 1)
+    → (r.status ≡ Refused) × (string_bytes r.text ≡ configuration_line 0 0 (kind_number Length)) → IsRefusedConfiguration left r
+too_long_refused left after r took told =
+    let found = too_long_may_be left after configuration_limit took in
+    (found.0, string_bytes r.text, found.1, too_long found.2 told.1, is_refusal r (string_bytes r.text) told.0 refl)
 
--- ---- the tests on it
+pub fault_refused : (left after : Option (List ℕ)) (bytes : List ℕ) (fault : CfgFault) (r : Reply) → TakesAll left after bytes → length bytes ≤ configuration_limit
+    → IsFileAnswer bytes (Err (Fault fault)) → (r.status ≡ Refused) × (string_bytes r.text ≡ configuration_line fault.line fault.field fault.kind) → IsRefusedConfiguration left r
+fault_refused left after bytes fault r took small is told =
+    let line : string_bytes r.text ≡ configuration_line fault.line fault.field (kind_number is.0) = told.1 ∙ ap (λ k. configuration_line fault.line fault.field k) is.1 in
+    (bytes, string_bytes r.text, all_may_be left after bytes took, first_fault fault.line fault.field is.0 small is.2 line, is_refusal r (string_bytes r.text) told.0 refl)
 
-pub match_told : {E : Type 0} (words : List (List ℕ)) (left after : List ℕ → Option (List ℕ)) (name : List ℕ) (command : LevelsCommand) (c : Config) (fault : MatchFault) (r : Result Reply E) → AsksLevels words command
-    → name ≡ configuration_name words → (bytes : List ℕ) × TakesAll (left name) (after name) bytes × IsConfiguration bytes c → IsMatchFault c command.channel fault
-    → IfOk r (λ x. (x.status ≡ Refused) × (string_bytes x.text ≡ match_line fault))
-    → IfOk r (λ x. x.status ≢ ReadFailed → (files : List ℕ → List ℕ) → Tells left files → IsDue words files (status_number x.status) (string_bytes x.text))
-match_told words left after name command c fault (Ok x) asks is read failed told = λ fine files tells.
-    match command.channel command.supply.nominal_mv command.supply.uncertainty_uv c fault asks (was_configuration words left after name c is read files tells) failed (ap status_number told.0) told.1
-match_told words left after name command c fault (Err e) asks is read failed told = tt
+-- ---- two files that differ in name
 
--- ---- the data
+-- the names of the two files
+abbrev pub two_names : List (List ℕ) → List (List ℕ)
+two_names words = configuration_name words ∷ data_name words ∷ []
 
--- the data are as at entry once the configuration was read
-pub data_untouched : (words : List (List ℕ)) (left after : List ℕ → Option (List ℕ)) (name : List ℕ) → name ≡ configuration_name words → configuration_name words ≢ data_name words → OthersStay name left after
-    → after (data_name words) ≡ left (data_name words)
-data_untouched words left after name is names others = others (data_name words) (λ same. names (sym (same ∙ is)))
+-- what is left under the second file is as at entry once the first was read
+pub data_untouched : (words : List (List ℕ)) (old new : ShelfTold) (name : List ℕ) → name ≡ configuration_name words → configuration_name words ≢ data_name words → ReadsUnder name old new
+    → new.left (data_name words) ≡ old.left (data_name words)
+data_untouched words old new name is names others = others (data_name words) (λ same. names (sym (same ∙ is)))
 
-pub levels_told : {E : Type 0} (words : List (List ℕ)) (left after : List ℕ → Option (List ℕ)) (name data_word : List ℕ) (command : LevelsCommand) (c : Config) (a : Analog) (matched : Matched) (r : Result Reply E) → AsksLevels words command
-    → name ≡ configuration_name words → data_word ≡ data_name words → OthersStay name left after
-    → (bytes : List ℕ) × TakesAll (left name) (after name) bytes × IsConfiguration bytes c → IsMatched c command a matched
-    → IfOk r (λ x. x.status ≢ ReadFailed → (bytes : List ℕ) → after data_word ≡ Some bytes → (b : Analog) → IsMatched c command b matched
-    → IsDueForLevels command.channel command.supply.nominal_mv command.supply.uncertainty_uv c b matched.lamp bytes (status_number x.status) (string_bytes x.text))
-    → IfOk r (λ x. x.status ≢ ReadFailed → (files : List ℕ → List ℕ) → Tells left files → IsDue words files (status_number x.status) (string_bytes x.text))
-levels_told words left after name data_word command c a matched (Ok x) asks is there others read matches told = λ fine files tells.
-    let still : after data_word ≡ Some (files (data_name words)) = ap after there ∙ data_untouched words left after name is asks.names others ∙ tells (data_name words) in
-    levels command.channel command.supply.nominal_mv command.supply.uncertainty_uv c a matched.lamp asks (was_configuration words left after name c is read files tells) matches.matches
-    (told fine (files (data_name words)) still a matches)
-levels_told words left after name data_word command c a matched (Err e) asks is there others read matches told = tt
+-- these two may be the contents of the two files
+two_contents : (words : List (List ℕ)) (told : ShelfTold) (name bytes rest : List ℕ) → name ≡ configuration_name words → MayHold (told.left name) bytes → MayHold (told.left (data_name words)) rest
+    → AllZip MayHold (map told.left (two_names words)) (bytes ∷ rest ∷ [])
+two_contents words told name bytes rest is first second = (subst (λ (n : List ℕ). MayHold (told.left n) bytes) is first, (second, tt))
 
-pub check_told : {E : Type 0} (words : List (List ℕ)) (left after : List ℕ → Option (List ℕ)) (name data_word : List ℕ) (c : Config) (r : Result Reply E) → IsCheck words
-    → name ≡ configuration_name words → data_word ≡ data_name words → OthersStay name left after
-    → (bytes : List ℕ) × TakesAll (left name) (after name) bytes × IsConfiguration bytes c
-    → IfOk r (λ x. x.status ≢ ReadFailed → (bytes : List ℕ) → after data_word ≡ Some bytes → IsDueForCheck c bytes (status_number x.status) (string_bytes x.text))
-    → IfOk r (λ x. x.status ≢ ReadFailed → (files : List ℕ → List ℕ) → Tells left files → IsDue words files (status_number x.status) (string_bytes x.text))
-check_told words left after name data_word c (Ok x) asks is there others read told = λ fine files tells.
-    let still : after data_word ≡ Some (files (data_name words)) = ap after there ∙ data_untouched words left after name is asks.names others ∙ tells (data_name words) in
-    check c asks (was_configuration words left after name c is read files tells) (told fine (files (data_name words)) still)
-check_told words left after name data_word c (Err e) asks is there others read told = tt
+-- the data as they are told, or none
+abbrev any_data : (words : List (List ℕ)) (told : ShelfTold) → List ℕ
+any_data words told = told_or_none (told.left (data_name words))
 
--- the data of these files are read
-pub levels_read : (words : List (List ℕ)) (left after : List ℕ → Option (List ℕ)) (name : List ℕ) (command : LevelsCommand) (c : Config) (a : Analog) (matched : Matched) → AsksLevels words command
-    → name ≡ configuration_name words → (bytes : List ℕ) × TakesAll (left name) (after name) bytes × IsConfiguration bytes c → IsMatched c command a matched
-    → (files : List ℕ → List ℕ) → Tells left files → ReadsData words files
-levels_read words left after name command c a matched asks is read matches files tells =
-    (c, was_configuration words left after name c is read files tells, inl (command.channel, command.supply.nominal_mv, command.supply.uncertainty_uv, a, matched.lamp, asks, matches.matches))
+moved_data : (words : List (List ℕ)) (old new : ShelfTold) (data_word rest : List ℕ) → data_word ≡ data_name words → new.left (data_name words) ≡ old.left (data_name words)
+    → MayHold (new.left data_word) rest → MayHold (old.left (data_name words)) rest
+moved_data words old new data_word rest there same may =
+    subst (λ (left : Option (List ℕ)). MayHold left rest) (ap new.left there ∙ same) may
 
-pub check_read : (words : List (List ℕ)) (left after : List ℕ → Option (List ℕ)) (name : List ℕ) (c : Config) → IsCheck words
-    → name ≡ configuration_name words → (bytes : List ℕ) × TakesAll (left name) (after name) bytes × IsConfiguration bytes c
-    → (files : List ℕ → List ℕ) → Tells left files → ReadsData words files
-check_read words left after name c asks is read files tells = (c, was_configuration words left after name c is read files tells, inr asks)
+-- nothing is read under a name that is none of the two
+pub two_only : (words : List (List ℕ)) (old mid new : ShelfTold) (name data_word : List ℕ) → name ≡ configuration_name words → data_word ≡ data_name words
+    → ReadsUnder name old mid → ReadsUnder data_word mid new → ReadsOnly (two_names words) old new
+two_only words old mid new name data_word is there first second = λ other never.
+    second other (λ same. never (contains_next (data_name words ∷ []) (configuration_name words) other (subst (λ (n : List ℕ). Contains (n ∷ []) other) (same ∙ there) (contains_first [] other))))
+    ∙ first other (λ same. never (subst (λ (n : List ℕ). Contains (n ∷ data_name words ∷ []) other) (same ∙ is) (contains_first (data_name words ∷ []) other)))
 
--- the tables of a lamp
-pub tables_told : {E : Type 0} (words : List (List ℕ)) (lamp : Lamp) (left : List ℕ → Option (List ℕ)) (r : Result Reply E) → IsTables words lamp
-    → IfOk r (λ x. IsDueForTables lamp (status_number x.status) (string_bytes x.text))
-    → IfOk r (λ x. x.status ≢ ReadFailed → (files : List ℕ → List ℕ) → Tells left files → IsDue words files (status_number x.status) (string_bytes x.text))
-tables_told words lamp left (Ok x) asks due = λ fine files tells. tables lamp asks due
-tables_told words lamp left (Err e) asks due = tt
+pub one_only : (words : List (List ℕ)) (old new : ShelfTold) (name : List ℕ) → name ≡ configuration_name words → ReadsUnder name old new → ReadsOnly (two_names words) old new
+one_only words old new name is first = λ other never.
+    first other (λ same. never (subst (λ (n : List ℕ). Contains (n ∷ data_name words ∷ []) other) (same ∙ is) (contains_first (data_name words ∷ []) other)))
 
--- ---- the status
+-- ---- levels
 
-pub status_known : (s : Status) (n : ℕ) → n ≡ status_number s → (n ≡ 0) ⊎ ((n ≡ 2) ⊎ ((n ≡ 4) ⊎ ((n ≡ 5) ⊎ (n ≡ 6))))
-status_known Done n is = inl is
-status_known Refused n is = inr (inl is)
-status_known ReadFailed n is = inr (inr (inl is))
+pub levels_unread : (words : List (List ℕ)) (told : ShelfTold) (name : List ℕ) (command : LevelsCommand) (r : Reply) → name ≡ configuration_name words
+    → (r.status ≢ ReadFailed → IsRefusedConfiguration (told.left name) r)
+    → IsExplained (Levels command) (two_names words) told r
+levels_unread words told name command r is refused = λ fine.
+    let out = refused fine in
+    (out.0 ∷ any_data words told ∷ [], two_contents words told name out.0 (any_data words told) is out.2 (may_be_told (told.left (data_name words))), no_configuration out.1 out.3 out.4)
 
--- no composed answer has the status of a failed write, or of want of memory
-pub composed : (s : Status) (n : ℕ) → n ≡ status_number s → n < 5
-composed Done n is = omega (arith, is)
-composed Refused n is = omega (arith, is)
-composed ReadFailed n is = omega (arith, is)
+pub levels_unmatched : {E : Type 0} (words : List (List ℕ)) (told : ShelfTold) (name : List ℕ) (command : LevelsCommand) (c : Config) (fault : MatchFault) (r : Result Reply E) → name ≡ configuration_name words
+    → (bytes : List ℕ) × MayHold (told.left name) bytes × IsConfiguration bytes c → IsMatchFault c command.channel fault
+    → IfOk r (λ x. (x.status ≡ Refused) × (string_bytes x.text ≡ match_line fault)) → IfOk r (IsExplained (Levels command) (two_names words) told)
+levels_unmatched words told name command c fault (Ok x) is found failed reply = λ fine. (
+  found.0 ∷ any_data words told ∷ [],
+  two_contents words told name found.0 (any_data words told) is found.1 (may_be_told (told.left (data_name words))),
+  no_match c fault found.2 failed (is_refusal x (match_line fault) reply.0 reply.1),
+)
+levels_unmatched words told name command c fault (Err e) is found failed reply = tt
 
--- 4 is the number of a failed read alone
-pub read_failed : (s : Status) (n : ℕ) → n ≡ status_number s → n ≡ 4 → s ≡ ReadFailed
-read_failed Done n is four = absurd (omega (arith, is, four))
-read_failed Refused n is four = absurd (omega (arith, is, four))
-read_failed ReadFailed n is four = refl
+pub levels_explained : {E : Type 0} (words : List (List ℕ)) (old new : ShelfTold) (name data_word : List ℕ) (command : LevelsCommand) (c : Config) (a : Analog) (m : Matched) (r : Result Reply E)
+    → Asks words (Levels command) → name ≡ configuration_name words → data_word ≡ data_name words → ReadsUnder name old new
+    → (bytes : List ℕ) × MayHold (old.left name) bytes × IsConfiguration bytes c → IsMatched c command a m
+    → IfOk r (λ x. x.status ≢ ReadFailed → (bytes : List ℕ) × MayHold (new.left data_word) bytes × ((a : Analog) → IsMatched c command a m
+    → IsDueForRecording command.channel command.supply.nominal_mv command.supply.uncertainty_uv c a m.lamp bytes (outcome_of x)))
+    → IfOk r (IsExplained (Levels command) (two_names words) old)
+levels_explained words old new name data_word command c a m (Ok x) asks is there others found matches reply = λ fine.
+    let out = reply fine in
+    let rest = moved_data words old new data_word out.0 there (data_untouched words old new name is asks.names others) out.1 in
+    (found.0 ∷ out.0 ∷ [], two_contents words old name found.0 out.0 is found.1 rest, matched c a m.lamp found.2 matches.matches (out.2 a matches))
+levels_explained words old new name data_word command c a m (Err e) asks is there others found matches reply = tt
 
-pub not_failed : (s : Status) (n : ℕ) → n ≡ status_number s → n ≢ 4 → s ≢ ReadFailed
-not_failed s n is other same = other (is ∙ ap status_number same)
+-- ---- check
 
--- a read that failed is told
-pub fault_is_told : (s : Status) (n before now : ℕ) → n ≡ status_number s → (s ≢ ReadFailed → now ≡ before) → before < now → n ≡ 4
-fault_is_told Done n before now is quiet rose = absurd (omega (arith, quiet (λ same. cc), rose))
-fault_is_told Refused n before now is quiet rose = absurd (omega (arith, quiet (λ same. cc), rose))
-fault_is_told ReadFailed n before now is quiet rose = is
+pub check_unread : (words : List (List ℕ)) (told : ShelfTold) (name : List ℕ) (r : Reply) → name ≡ configuration_name words
+    → (r.status ≢ ReadFailed → IsRefusedConfiguration (told.left name) r)
+    → IsExplained Check (two_names words) told r
+check_unread words told name r is refused = λ fine.
+    let out = refused fine in
+    (out.0 ∷ any_data words told ∷ [], two_contents words told name out.0 (any_data words told) is out.2 (may_be_told (told.left (data_name words))), unread out.1 out.3 out.4)
 
--- What a failed write has begun: the answer that is due, or that a read failed.
-pub front_due : (words : List (List ℕ)) (files : List ℕ → List ℕ) (s : Status) (t : List ℕ) (written later : Option (List ℕ)) (before now : ℕ)
-    → (s ≢ ReadFailed → IsDue words files (status_number s) t) → (s ≡ ReadFailed → (t ≡ read_line) × Rose before now) → AddsFront written later t
-    → ((status : ℕ) × (text : List ℕ) × IsDue words files status text × AddsFront written later text) ⊎ (Rose before now × AddsFront written later read_line)
-front_due words files Done t written later before now due read front = inl (0, t, due (λ same. cc), front)
-front_due words files Refused t written later before now due read front = inl (2, t, due (λ same. cc), front)
-front_due words files ReadFailed t written later before now due read front =
-    let failed = read refl in
-    let P : List ℕ → Type 0 = λ line. AddsFront written later line in
-    inr (failed.1, subst P failed.0 front)
+pub check_explained : {E : Type 0} (words : List (List ℕ)) (old new : ShelfTold) (name data_word : List ℕ) (c : Config) (r : Result Reply E)
+    → IsCheck words → name ≡ configuration_name words → data_word ≡ data_name words → ReadsUnder name old new
+    → (bytes : List ℕ) × MayHold (old.left name) bytes × IsConfiguration bytes c
+    → IfOk r (λ x. x.status ≢ ReadFailed → (bytes : List ℕ) × MayHold (new.left data_word) bytes × IsDueForSummary c bytes (outcome_of x))
+    → IfOk r (IsExplained Check (two_names words) old)
+check_explained words old new name data_word c (Ok x) asks is there others found reply = λ fine.
+    let out = reply fine in
+    let rest = moved_data words old new data_word out.0 there (data_untouched words old new name is asks.names others) out.1 in
+    (found.0 ∷ out.0 ∷ [], two_contents words old name found.0 out.0 is found.1 rest, read c found.2 out.2)
+check_explained words old new name data_word c (Err e) asks is there others found reply = tt
+
+-- ---- turns
+
+-- where the data don't come to their turn, they are as at entry
+pub data_await : (q : Command) (words : List (List ℕ)) (old new : ShelfTold) → new.left (data_name words) ≡ old.left (data_name words) → AwaitsTurns q (two_names words) old new
+data_await q words old new same = λ contents tells i less never. turns contents i less never
+  where
+    turns : (contents : List (List ℕ)) (i : ℕ) → i < 2 → ¬ ComesToTurn q contents i → new.left (slice_index_or (two_names words) i []) ≡ old.left (slice_index_or (two_names words) i [])
+    turns contents zero less never = absurd (never tt)
+    turns contents (suc zero) less never = same
+    turns contents (suc (suc i)) less never = absurd (omega (arith, less))
+
+-- the contents that are told are those that were read
+told_first : (words : List (List ℕ)) (told : ShelfTold) (name bytes x : List ℕ) (contents : List (List ℕ)) → name ≡ configuration_name words → MayHold (told.left name) bytes
+    → map told.left (two_names words) ≡ map Some (x ∷ contents) → bytes ≡ x
+told_first words told name bytes x contents is may tells =
+    may x (ap told.left is ∙ head)
+  where
+    first : List (Option (List ℕ)) → Option (List ℕ)
+    first [] = None
+    first (y ∷ ys) = y
+
+    head : told.left (configuration_name words) ≡ Some x
+    head = ap first tells
+
+pub levels_in_turn : (words : List (List ℕ)) (old new : ShelfTold) (name : List ℕ) (command : LevelsCommand) (c : Config) (a : Analog) (m : Matched) → name ≡ configuration_name words
+    → (bytes : List ℕ) × MayHold (old.left name) bytes × IsConfiguration bytes c → IsMatched c command a m → AwaitsTurns (Levels command) (two_names words) old new
+levels_in_turn words old new name command c a m is found matches = turns
+  where
+    turns : AwaitsTurns (Levels command) (two_names words) old new
+    turns contents tells zero less never = absurd (never tt)
+    turns [] tells (suc i) less never = cc
+    turns (x ∷ contents) tells (suc i) less never =
+        let same = told_first words old name found.0 x contents is found.1 tells in
+        absurd (never (c, a, m.lamp, subst (λ (y : List ℕ). IsConfiguration y c) same found.2, matches.matches))
+
+pub check_in_turn : (words : List (List ℕ)) (old new : ShelfTold) (name : List ℕ) (c : Config) → name ≡ configuration_name words
+    → (bytes : List ℕ) × MayHold (old.left name) bytes × IsConfiguration bytes c → AwaitsTurns Check (two_names words) old new
+check_in_turn words old new name c is found = turns
+  where
+    turns : AwaitsTurns Check (two_names words) old new
+    turns contents tells zero less never = absurd (never tt)
+    turns [] tells (suc i) less never = cc
+    turns (x ∷ contents) tells (suc i) less never =
+        let same = told_first words old name found.0 x contents is found.1 tells in
+        absurd (never (c, subst (λ (y : List ℕ). IsConfiguration y c) same found.2))
+
+-- ---- honest replies
 
 -- a fault line of the words or the files says nothing of a read
-pub refused_honest : {E : Type 0} (line : List ℕ) (before now : ℕ) (r : Result Reply E) → IfOk r (λ x. (x.status ≡ Refused) × (string_bytes x.text ≡ line)) → now ≡ before
-    → IfOk r (IsHonestReply before now)
-refused_honest line before now (Ok x) h same = record {
-  read = λ failed.
-      let refused = h.0 in
-      cc;
+pub refused_honest : {E : Type 0} (line : List ℕ) (old new : ShelfTold) (r : Result Reply E) → IfOk r (λ x. (x.status ≡ Refused) × (string_bytes x.text ≡ line))
+    → new.read_faults ≡ old.read_faults → IfOk r (IsHonest old new)
+refused_honest line old new (Ok x) h same = record {
+  text = λ failed. let refused = h.0 in cc;
+  rose = λ failed. let refused = h.0 in cc;
   quiet = λ other. same;
 }
-refused_honest line before now (Err e) h same = tt
+refused_honest line old new (Err e) h same = tt
 
--- ---- the shelf
-
-pub only_reads_on : (a b c d e f : ℕ) (x y z : List ℕ → Option (List ℕ)) → OnlyReads a b d e x y → OnlyReads b c e f y z → OnlyReads a c d f x z
-only_reads_on a b c d e f x y z h k = record {
-  later = omega (arith, h.later, k.later);
-  append_faults = k.append_faults ∙ h.append_faults;
-  added = λ name. k.added name ∙ h.added name;
+-- what is honest of the second reading is honest of both
+pub honest_on : {E : Type 0} (old mid new : ShelfTold) (r : Result Reply E) → mid.read_faults ≡ old.read_faults → IfOk r (IsHonest mid new) → IfOk r (IsHonest old new)
+honest_on old mid new (Ok x) same h = record {
+  text = h.text;
+  rose = λ failed. rw same at (h.rose failed);
+  quiet = λ other. h.quiet other ∙ same;
 }
+honest_on old mid new (Err e) same h = tt

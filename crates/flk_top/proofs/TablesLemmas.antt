@@ -5,24 +5,28 @@ use Rattle.std.specs.Int.RustNames.{unsigned_abs}
 use Rattle.flk_exact.specs.Rounding.{ceil_of}
 use Rattle.flk_cert.specs.declared.coefs.Coefs.{Coefs}
 use Rattle.flk_cert.specs.declared.certificate.CertRow.{CertRow}
-use Rattle.flk_cert.specs.Certificate.{row_at, Fits}
+use Rattle.flk_cert.specs.Certificate.{row_at, FitsSection}
 use Rattle.flk_cert.specs.Gain.{input_of, rounding_of}
 use Rattle.flk_cert.proofs.MakeLemmas.{IsMade-unique}
+use Rattle.flk_num.specs.Rate.{sampling_interval}
 use Rattle.flk_num.specs.declared.lamp.Lamp.{Lamp}
-use Rattle.flk_num.specs.declared.lamp.Lamp.TheVariants.{L230, L120}
+use Rattle.flk_num.specs.declared.rate.Rate.{Rate}
 use Rattle.flk_design.specs.Lamp.{constants_of}
-use Rattle.flk_design.specs.Design.{IsDesign, interval_2400}
+use Rattle.flk_design.specs.Design.{IsDesign}
 use Rattle.flk_design.proofs.DesignLemmas.{design_unique}
-use Rattle.flk_top.specs.Command.{IsTables, lamp_word}
+use Rattle.flk_top.specs.Certified.{IsRefused, IsFirstRefused}
+use Rattle.flk_top.specs.Faults.{lamp_line}
+use Rattle.flk_top.specs.Outcome.{Outcome, completed, refusal}
+use Rattle.flk_top.specs.Replies.{outcome_of}
+use Rattle.flk_top.specs.Tables.{section_line, gain_line, AreSectionLines, AreLines, IsDueForTables, certified, refused}
 use Rattle.flk_top.specs.declared.reply.Reply.{Reply}
 use Rattle.flk_top.specs.declared.reply.Status.TheVariants.{Refused}
-use Rattle.flk_top.specs.Status.{status_number}
-use Rattle.flk_top.specs.Tables.{section_line, gain_line, AreSectionLines, IsRefused, AreLines, IsFirstRefused, lamp_line, IsDueForTables, certified, refused}
+use Rattle.flk_top.proofs.Outcomes.{is_refusal, agreed}
 
 -- a section that has lines is not refused: one certificate is made for it
 pub not_refused : (i : ℕ) (k : Coefs) (text : List ℕ) → AreSectionLines i k text → ¬ IsRefused k
 not_refused i k text h other =
-    let P : List CertRow → Type 0 = λ rows. Fits k rows in
+    let P : List CertRow → Type 0 = λ rows. FitsSection k rows in
     other.fails (subst P (IsMade-unique k h.rows other.rows h.certified.made other.made) h.certified.fits)
 
 -- These are the lines of the first i sections, of which none is refused: with the lines of the rest they are the lines of all, and the
@@ -69,10 +73,11 @@ begun_refused sections i k text there is begun fails =
     subst P (omega arith) (begun.refused 0 (subst Q (sym step) fails))
 
 -- the line of that section
-pub refused_reply : {E : Type 0} (lamp : Lamp) (sections : List Coefs) (i : ℕ) (r : Result Reply E) → IsDesign interval_2400 (constants_of lamp) sections → IsFirstRefused sections i
-    → IfOk r (λ x. (x.status ≡ Refused) × (string_bytes x.text ≡ lamp_line (i + 1))) → IfOk r (λ x. IsDueForTables lamp (status_number x.status) (string_bytes x.text))
-refused_reply lamp sections i (Ok x) is first h = refused sections i is first (ap status_number h.0) h.1
-refused_reply lamp sections i (Err e) is first h = tt
+pub refused_reply : {E : Type 0} (lamp : Lamp) (rate : Rate) (sections : List Coefs) (i : ℕ) (r : Result Reply E)
+    → IsDesign (sampling_interval rate) (constants_of lamp) sections → IsFirstRefused sections i
+    → IfOk r (λ x. (x.status ≡ Refused) × (string_bytes x.text ≡ lamp_line (i + 1))) → IfOk r (λ x. IsDueForTables lamp rate (outcome_of x))
+refused_reply lamp rate sections i (Ok x) is first h = refused sections i is first (is_refusal x (lamp_line (i + 1)) h.0 h.1)
+refused_reply lamp rate sections i (Err e) is first h = tt
 
 -- ---- one answer
 
@@ -108,28 +113,20 @@ never_refused n [] xs i h g = g
 never_refused n (k ∷ ks) xs zero h g = not_refused n k h.0 h.2 g
 never_refused n (k ∷ ks) xs (suc i) h g = never_refused (n + 1) ks h.1 i h.3 g.1
 
-pub one_table : (lamp : Lamp) (s t : ℕ) (xs ys : List ℕ) → IsDueForTables lamp s xs → IsDueForTables lamp t ys → (s ≡ t) × (xs ≡ ys)
-one_table lamp s t xs ys (certified ks is lines status) (certified js that others number) =
-    let P : List Coefs → Type 0 = λ k. AreLines 1 k xs in
-    (status ∙ sym number, all_lines_unique 1 js xs ys (subst P (design_unique interval_2400 (constants_of lamp) ks js is that) lines) others)
-one_table lamp s t xs ys (certified ks is lines status) (refused js i that first number line) =
-    let P : List Coefs → Type 0 = λ k. AreLines 1 k xs in
-    absurd (never_refused 1 js xs i (subst P (design_unique interval_2400 (constants_of lamp) ks js is that) lines) first)
-one_table lamp s t xs ys (refused ks i is first status line) (certified js that others number) =
-    let P : List Coefs → Type 0 = λ k. AreLines 1 k ys in
-    absurd (never_refused 1 ks ys i (subst P (design_unique interval_2400 (constants_of lamp) js ks that is) others) first)
-one_table lamp s t xs ys (refused ks i is first status line) (refused js j that other number text) =
+pub one_table : (lamp : Lamp) (rate : Rate) (o p : Outcome) → IsDueForTables lamp rate o → IsDueForTables lamp rate p → o ≡ p
+one_table lamp rate o p (certified ks text is lines done) (certified js line that others also) =
+    let P : List Coefs → Type 0 = λ k. AreLines 1 k text in
+    let same = design_unique (sampling_interval rate) (constants_of lamp) ks js is that in
+    done ∙ ap completed (all_lines_unique 1 js text line (subst P same lines) others) ∙ sym also
+one_table lamp rate o p (certified ks text is lines done) (refused js i that first also) =
+    let P : List Coefs → Type 0 = λ k. AreLines 1 k text in
+    let same = design_unique (sampling_interval rate) (constants_of lamp) ks js is that in
+    absurd (never_refused 1 js text i (subst P same lines) first)
+one_table lamp rate o p (refused ks i is first done) (certified js text that others also) =
+    let P : List Coefs → Type 0 = λ k. AreLines 1 k text in
+    let same = design_unique (sampling_interval rate) (constants_of lamp) js ks that is in
+    absurd (never_refused 1 ks text i (subst P same others) first)
+one_table lamp rate o p (refused ks i is first done) (refused js j that other also) =
     let P : List Coefs → Type 0 = λ k. IsFirstRefused k i in
-    let same = refused_unique js i j (subst P (design_unique interval_2400 (constants_of lamp) ks js is that) first) other in
-    (status ∙ sym number, line ∙ ap (λ n. lamp_line (n + 1)) same ∙ sym text)
-
--- the lamps have two words
-other_word : {A : Type 0} → lamp_word L230 ≡ lamp_word L120 → A
-other_word same = let first : 50 ≡ 49 = ap (λ xs. get_or xs 0 0) same in absurd (omega (arith, first))
-
--- the words of `tables` have one lamp
-pub one_lamp : (words : List (List ℕ)) (a b : Lamp) → IsTables words a → IsTables words b → a ≡ b
-one_lamp words L230 L230 h k = refl
-one_lamp words L230 L120 h k = other_word (sym h.lamp_is ∙ k.lamp_is)
-one_lamp words L120 L230 h k = other_word (sym k.lamp_is ∙ h.lamp_is)
-one_lamp words L120 L120 h k = refl
+    let same = design_unique (sampling_interval rate) (constants_of lamp) ks js is that in
+    agreed done also (ap (λ n. lamp_line (n + 1)) (refused_unique js i j (subst P same first) other))

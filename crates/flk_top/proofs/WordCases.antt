@@ -6,8 +6,14 @@ use Rattle.std.proofs.lemmas.Bool.{cases_lt, cases_eq}
 use Rattle.flk_cfg.proofs.SetCases.{same_text}
 use Rattle.flk_num.specs.declared.lamp.Lamp.{Lamp}
 use Rattle.flk_num.specs.declared.lamp.Lamp.TheVariants.{L230, L120}
-use Rattle.flk_top.specs.Command.{IsNumber, IsNumberIn, word, configuration_name, data_name, IsLevels, IsCheck, IsTables, lamp_word, IsNoCommand}
-use Rattle.flk_top.proofs.Headline.{one_number}
+use Rattle.flk_num.specs.declared.rate.Rate.{Rate}
+use Rattle.flk_num.specs.declared.rate.Rate.TheVariants.{R2400, R4800}
+use Rattle.flk_cfg.specs.Canonical.{rate_text}
+use Rattle.flk_top.specs.Command.{IsNumber, IsNumberIn, word, configuration_name, data_name, IsLevels, IsCheck, AsksRate, IsTables, lamp_word, Asks, IsNoCommand}
+use Rattle.flk_top.specs.declared.command.LevelsCommand.{LevelsCommand}
+use Rattle.flk_top.specs.declared.command.Command.{Command}
+use Rattle.flk_top.specs.declared.command.Command.TheVariants.{Levels, Check, Tables}
+use Rattle.flk_top.proofs.OneCommand.{one_number}
 
 -- ---- numbers
 
@@ -53,7 +59,7 @@ in_cases low high text =
 abbrev AsksForLevels : List (List ℕ) → Type 0
 AsksForLevels words = (channel : ℕ) × (nominal : ℕ) × (uncertainty : ℕ) × IsLevels words channel nominal uncertainty
 
-abbrev NoLevels : List (List ℕ) → Type 0
+abbrev pub NoLevels : List (List ℕ) → Type 0
 NoLevels words = (channel nominal uncertainty : ℕ) → ¬ IsLevels words channel nominal uncertainty
 
 numbers_cases : (words : List (List ℕ)) → length words ≡ 6 → word words 0 ≡ codes "levels" → configuration_name words ≢ data_name words → AsksForLevels words ⊎ NoLevels words
@@ -102,42 +108,85 @@ check_cases words =
       ]
     ]
 
-lamp_none : (words : List (List ℕ)) → word words 1 ≢ lamp_word L230 → word words 1 ≢ lamp_word L120 → (lamp : Lamp) → ¬ IsTables words lamp
-lamp_none words first second L230 is = first is.lamp_is
-lamp_none words first second L120 is = second is.lamp_is
+lamp_cases : (text : List ℕ) → ((lamp : Lamp) × (text ≡ lamp_word lamp)) ⊎ ((lamp : Lamp) → text ≢ lamp_word lamp)
+lamp_cases text =
+    elim (same_text text (lamp_word L230)) [
+      | inl same ↦ inl (L230, same)
+      | inr first ↦ elim (same_text text (lamp_word L120)) [
+        | inl same ↦ inl (L120, same)
+        | inr second ↦ inr (none first second)
+      ]
+    ]
+  where
+    none : text ≢ lamp_word L230 → text ≢ lamp_word L120 → (lamp : Lamp) → text ≢ lamp_word lamp
+    none first second L230 same = first same
+    none first second L120 same = second same
 
-tables_cases : (words : List (List ℕ)) → ((lamp : Lamp) × IsTables words lamp) ⊎ ((lamp : Lamp) → ¬ IsTables words lamp)
-tables_cases words =
+no_rate : (words : List (List ℕ)) → length words ≢ 2 → ((rate : Rate) → length words ≡ 3 → word words 2 ≢ rate_text rate) → (rate : Rate) → ¬ AsksRate words rate
+no_rate words two three rate (inl asks) = two asks.0
+no_rate words two three rate (inr asks) = three rate asks.0 asks.1
+
+rate_cases : (words : List (List ℕ)) → ((rate : Rate) × AsksRate words rate) ⊎ ((rate : Rate) → ¬ AsksRate words rate)
+rate_cases words =
     elim (cases_eq (length words) 2) [
-      | inr other ↦ inr (λ lamp is. other is.count)
-      | inl count ↦ elim (same_text (word words 0) (codes "tables")) [
-        | inr other ↦ inr (λ lamp is. other is.command)
-        | inl command ↦ elim (same_text (word words 1) (lamp_word L230)) [
-          | inl same ↦ inl (L230, record { count = count; command = command; lamp_is = same })
-          | inr first ↦ elim (same_text (word words 1) (lamp_word L120)) [
-            | inl same ↦ inl (L120, record { count = count; command = command; lamp_is = same })
-            | inr second ↦ inr (lamp_none words first second)
+      | inl two ↦ inl (R2400, inl (two, refl))
+      | inr two ↦ elim (cases_eq (length words) 3) [
+        | inr other ↦ inr (no_rate words two (λ rate three same. other three))
+        | inl three ↦ elim (same_text (word words 2) (rate_text R2400)) [
+          | inl same ↦ inl (R2400, inr (three, same))
+          | inr first ↦ elim (same_text (word words 2) (rate_text R4800)) [
+            | inl same ↦ inl (R4800, inr (three, same))
+            | inr second ↦ inr (no_rate words two (none first second))
           ]
         ]
       ]
     ]
+  where
+    none : word words 2 ≢ rate_text R2400 → word words 2 ≢ rate_text R4800 → (rate : Rate) → length words ≡ 3 → word words 2 ≢ rate_text rate
+    none first second R2400 three same = first same
+    none first second R4800 three same = second same
+
+tables_cases : (words : List (List ℕ)) → ((lamp : Lamp) × (rate : Rate) × IsTables words lamp rate) ⊎ ((lamp : Lamp) (rate : Rate) → ¬ IsTables words lamp rate)
+tables_cases words =
+    elim (same_text (word words 0) (codes "tables")) [
+      | inr other ↦ inr (λ lamp rate is. other is.command)
+      | inl command ↦ elim (lamp_cases (word words 1)) [
+        | inr other ↦ inr (λ lamp rate is. other lamp is.lamp_is)
+        | inl lamp ↦ elim (rate_cases words) [
+          | inr other ↦ inr (λ l rate is. other rate is.rate_is)
+          | inl rate ↦ inl (lamp.0, rate.0, record { command = command; lamp_is = lamp.1; rate_is = rate.1 })
+        ]
+      ]
+    ]
+
+pub no_command : (words : List (List ℕ)) → NoLevels words → ¬ IsCheck words → ((lamp : Lamp) (rate : Rate) → ¬ IsTables words lamp rate) → IsNoCommand words
+no_command words levels check tables (Levels command) is = levels command.channel command.supply.nominal_mv command.supply.uncertainty_uv is
+no_command words levels check tables Check is = check is
+no_command words levels check tables (Tables lamp rate) is = tables lamp rate is
+
+-- what `levels` is asked for by these numbers
+abbrev levels_asked : (words : List (List ℕ)) (channel nominal uncertainty : ℕ) → IsLevels words channel nominal uncertainty → LevelsCommand
+levels_asked words channel nominal uncertainty is = record {
+  channel = channel;
+  supply = record {
+    nominal_mv = nominal;
+    uncertainty_uv = uncertainty;
+    nominal_low = is.nominal_word.at_least;
+    nominal_high = is.nominal_word.at_most;
+    uncertainty_high = is.uncertainty_word.at_most;
+  };
+}
 
 -- what the words ask for
-pub data Asked (words : List (List ℕ)) : Type 0 where
-  nothing : IsNoCommand words → Asked words
-  for_levels : (channel nominal uncertainty : ℕ) → IsLevels words channel nominal uncertainty → Asked words
-  for_check : IsCheck words → Asked words
-  for_tables : (lamp : Lamp) → IsTables words lamp → Asked words
-
-pub asked : (words : List (List ℕ)) → Asked words
-asked words =
+pub asked_for : (words : List (List ℕ)) → ((q : Command) × Asks words q) ⊎ IsNoCommand words
+asked_for words =
     elim (levels_cases words) [
-      | inl levels ↦ for_levels levels.0 levels.1 levels.2 levels.3
+      | inl levels ↦ inl (Levels (levels_asked words levels.0 levels.1 levels.2 levels.3), levels.3)
       | inr no_levels ↦ elim (check_cases words) [
-        | inl check ↦ for_check check
+        | inl check ↦ inl (Check, check)
         | inr no_check ↦ elim (tables_cases words) [
-          | inl tables ↦ for_tables tables.0 tables.1
-          | inr no_tables ↦ nothing (record { no_levels = no_levels; no_check = no_check; no_tables = no_tables })
+          | inl tables ↦ inl (Tables tables.0 tables.1, tables.2)
+          | inr no_tables ↦ inr (no_command words no_levels no_check no_tables)
         ]
       ]
     ]

@@ -1,8 +1,12 @@
--- The words of the commands `levels CFG DAT CHANNEL NOMINAL_MV UNCERTAINTY_UV`, `check CFG DAT` and `tables LAMP`.
-use Rattle.std.specs.Prelude.{◌≡◌, ◌≢◌, ◌⊎◌, ℕ, ◌*◌, ◌≤◌, List, [], length, slice_index_or, codes}
+-- The words of the commands `levels CFG DAT CHANNEL NOMINAL_MV UNCERTAINTY_UV`, `check CFG DAT` and `tables LAMP [RATE]`, and which
+-- files each reads and adds to.
+use Rattle.std.specs.Prelude.{◌≡◌, ◌≢◌, ◌⊎◌, ℕ, ◌*◌, ◌≤◌, List, [], ◌∷◌, Contains, length, slice_index_or, codes}
 use Rattle.std.specs.Str.Parse.{IsNumeral, digits_value}
 use Rattle.flk_num.specs.declared.lamp.Lamp.{Lamp}
 use Rattle.flk_num.specs.declared.lamp.Lamp.TheVariants.{L230, L120}
+use Rattle.flk_num.specs.declared.rate.Rate.{Rate}
+use Rattle.flk_num.specs.declared.rate.Rate.TheVariants.{R2400}
+use Rattle.flk_cfg.specs.Canonical.{rate_text}
 use Rattle.flk_top.specs.declared.command.LevelsCommand.{LevelsCommand}
 use Rattle.flk_top.specs.declared.command.Command.{Command}
 use Rattle.flk_top.specs.declared.command.Command.TheVariants.{Levels, Check, Tables}
@@ -49,28 +53,40 @@ abbrev pub lamp_word : Lamp → List ℕ
 lamp_word L230 = codes "230/50"
 lamp_word L120 = codes "120/60"
 
--- the words have the shape of `tables`, with this lamp
-pub record IsTables (words : List (List ℕ)) (lamp : Lamp) : Type 0 where
-  pub count : length words ≡ 2
+-- no word stands for the rate of 2400 samples a second, and the word of a rate, as a configuration writes it, for that rate
+abbrev pub AsksRate : List (List ℕ) → Rate → Type 0
+AsksRate words rate = ((length words ≡ 2) × (rate ≡ R2400)) ⊎ ((length words ≡ 3) × (word words 2 ≡ rate_text rate))
+
+-- the words have the shape of `tables`, with this lamp, and this rate where it is named
+pub record IsTables (words : List (List ℕ)) (lamp : Lamp) (rate : Rate) : Type 0 where
   pub command : word words 0 ≡ codes "tables"
   pub lamp_is : word words 1 ≡ lamp_word lamp
-
--- the words have no command's shape
-pub record IsNoCommand (words : List (List ℕ)) : Type 0 where
-  pub no_levels : (channel nominal uncertainty : ℕ) → ¬ IsLevels words channel nominal uncertainty
-  pub no_check : ¬ IsCheck words
-  pub no_tables : (lamp : Lamp) → ¬ IsTables words lamp
-
--- the words ask for these levels
-abbrev pub AsksLevels : List (List ℕ) → LevelsCommand → Type 0
-AsksLevels words command = IsLevels words command.channel command.supply.nominal_mv command.supply.uncertainty_uv
+  pub rate_is : AsksRate words rate
 
 -- the words ask for this command
 abbrev pub Asks : List (List ℕ) → Command → Type 0
-Asks words (Levels command) = AsksLevels words command
+Asks words (Levels command) = IsLevels words command.channel command.supply.nominal_mv command.supply.uncertainty_uv
 Asks words Check = IsCheck words
-Asks words (Tables lamp) = IsTables words lamp
+Asks words (Tables lamp rate) = IsTables words lamp rate
 
--- the words ask for a command that reads a configuration and its data
-abbrev pub AsksFiles : List (List ℕ) → Type 0
-AsksFiles words = ((channel nominal uncertainty : ℕ) × IsLevels words channel nominal uncertainty) ⊎ IsCheck words
+-- the words ask for no command
+abbrev pub IsNoCommand : List (List ℕ) → Type 0
+IsNoCommand words = (q : Command) → ¬ Asks words q
+
+-- the names of the files that a command reads, in the order in which it comes to them
+abbrev pub inputs_of : Command → List (List ℕ) → List (List ℕ)
+inputs_of (Levels command) words = configuration_name words ∷ data_name words ∷ []
+inputs_of Check words = configuration_name words ∷ data_name words ∷ []
+inputs_of (Tables lamp rate) words = []
+
+-- the names of the files that a command appends to
+abbrev pub outputs_of : Command → List (List ℕ) → List (List ℕ)
+outputs_of q words = []
+
+-- the name is one of the files that the words' command reads
+abbrev pub IsInput : List (List ℕ) → List ℕ → Type 0
+IsInput words name = (q : Command) × Asks words q × Contains (inputs_of q words) name
+
+-- the name is one of the files that the words' command appends to
+abbrev pub IsOutput : List (List ℕ) → List ℕ → Type 0
+IsOutput words name = (q : Command) × Asks words q × Contains (outputs_of q words) name

@@ -1,5 +1,5 @@
 -- The levels of a recording: how many half-periods it has, and intervals that hold the least and the greatest of their values.
-use Rattle.std.specs.Prelude.{◌≡◌, ℕ, ◌+◌, ◌*◌, ◌<◌, List, [], ◌∷◌, ◌++◌, length, map, slice_index_or, Option, Some, None, ℤ, pos, ◌-ℤ◌, ◌≤ℤ◌}
+use Rattle.std.specs.Prelude.{◌≡◌, ℕ, ◌+◌, ◌*◌, List, [], ◌∷◌, ◌++◌, length, map, Option, Some, None, ℤ, pos, ◌-ℤ◌, ◌≤ℤ◌}
 use Rattle.std.specs.List.{AllZip}
 use Rattle.flk_exact.specs.Fraction.{Fraction, ◌≤ℚ◌, whole}
 use Rattle.flk_exact.specs.Rounding.{IsBetween}
@@ -8,26 +8,12 @@ use Rattle.flk_exact.specs.Cut.{AreCuts, half_periods}
 use Rattle.flk_exact.specs.HalfPeriod.{AreHalfPeriodValues, half_period_width}
 use Rattle.flk_exact.specs.Extreme.{IsLeast, IsGreatest}
 use Rattle.flk_num.specs.declared.interval.Interval.{Interval}
-use Rattle.flk_scale.specs.Voltage.{is_below_zero, IsVoltageInterval, IsOverRange}
+use Rattle.flk_scale.specs.Voltage.{is_below_zero, IsVoltageInterval}
 use Rattle.flk_half.specs.Cutter.{IsHalfPeriodInterval}
 use Rattle.flk_top.specs.declared.measure.Levels.{Levels}
 use Rattle.flk_top.specs.declared.measure.Extremes.{Extremes}
 
 -- The recorded voltages are in microvolts, in the order of time, one for each sample.
-
--- the k-th voltage, from 0
-abbrev pub voltage_at : List Fraction → ℕ → Fraction
-voltage_at recorded k = slice_index_or recorded k (whole (pos 0))
-
--- voltage i is over range, and none before it
-pub record IsFirstOver (nominal : ℕ) (recorded : List Fraction) (i : ℕ) : Type 0 where
-  pub there : i < length recorded
-  pub over : IsOverRange nominal (voltage_at recorded i)
-  pub first : (k : ℕ) → k < i → ¬ IsOverRange nominal (voltage_at recorded k)
-
--- no voltage is over range
-abbrev pub IsWithinRange : ℕ → List Fraction → Type 0
-IsWithinRange nominal recorded = (k : ℕ) → k < length recorded → ¬ IsOverRange nominal (voltage_at recorded k)
 
 -- The interval holds the least (or the greatest) half-period value of every exact run whose voltages lie within the uncertainty of
 -- the recorded ones. (nominal in millivolts, uncertainty in microvolts)
@@ -39,7 +25,8 @@ HoldsEveryRun IsExtreme half nominal uncertainty recorded cuts v =
 -- it is at most `3 * 10^9 * delta + 3` wide, for every delta of at least `uncertainty / nominal + 2^-47`
 abbrev pub KeepsWidth : ℕ → ℕ → Interval → Type 0
 KeepsWidth nominal uncertainty v =
-    (delta : Fraction) → CoversDoubt (1000 * nominal) uncertainty delta → whole (v.hi -ℤ v.lo) ≤ℚ half_period_width delta
+    (delta : Fraction) → CoversDoubt (1000 * nominal) uncertainty delta
+    → whole (v.hi -ℤ v.lo) ≤ℚ half_period_width delta
 
 -- it runs from the least lo to the least hi of some intervals (or from the greatest lo to the greatest hi)
 pub record IsExtremeInterval (IsExtreme : List ℤ → ℤ → Type 0) (intervals : List Interval) (v : Interval) : Type 0 where
@@ -58,16 +45,19 @@ AreExtremeIntervalsIfAny intervals (Some e) = AreExtremeIntervals intervals e
 
 -- For each list that has the old extremes, the new ones are those of the list with one interval more.
 abbrev pub Widens : Option Extremes → Interval → Extremes → Type 0
-Widens old v new = (intervals : List Interval) → AreExtremeIntervalsIfAny intervals old → AreExtremeIntervals (intervals ++ v ∷ []) new
+Widens old v new =
+    (intervals : List Interval) → AreExtremeIntervalsIfAny intervals old → AreExtremeIntervals (intervals ++ v ∷ []) new
 
 -- the levels with one half-period more, where one ended
 abbrev pub Gains : Levels → Option Interval → Levels → Type 0
 Gains old None new = new ≡ old
-Gains old (Some v) new = (new.count ≡ old.count + 1) × (e : Extremes) × (new.extremes ≡ Some e) × Widens old.extremes v e
+Gains old (Some v) new =
+    (new.count ≡ old.count + 1) × (e : Extremes) × (new.extremes ≡ Some e) × Widens old.extremes v e
 
 -- What the two intervals promise. They hold every run, keep the width and are of natural numbers; and their ends are those of the
 -- recorded voltages' own intervals, so that the recorded voltages have one such pair.
-pub record AreExtremes (half nominal uncertainty : ℕ) (recorded : List Fraction) (cuts : List ℕ) (e : Extremes) : Type 0 where
+pub record AreExtremes (half nominal uncertainty : ℕ) (recorded : List Fraction) (cuts : List ℕ)
+    (e : Extremes) : Type 0 where
   pub least_holds : HoldsEveryRun IsLeast half nominal uncertainty recorded cuts e.least
   pub greatest_holds : HoldsEveryRun IsGreatest half nominal uncertainty recorded cuts e.greatest
   pub least_width : KeepsWidth nominal uncertainty e.least

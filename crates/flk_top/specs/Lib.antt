@@ -1,13 +1,22 @@
+-- cited by public contracts
+pub mod Outcome
 pub mod Command
+pub mod Told
+pub mod Configuration
 pub mod Matching
-pub mod Levels
-pub mod Measuring
-pub mod Reading
-pub mod Checking
 pub mod Faults
 pub mod Text
+pub mod Levels
+pub mod LevelsDue
+pub mod CheckDue
+pub mod Certified
 pub mod Tables
+pub mod Answer
+pub mod Run
+pub mod Headline
+-- cited by private ones
 pub mod Status
 pub mod Replies
-pub mod Answer
-pub mod Headline
+pub mod Measuring
+pub mod Blocks
+pub mod Checking

@@ -3,13 +3,14 @@ use Rattle.std.specs.Prelude.{◌≡◌, ℕ, List, length, map, slice_index_or,
 use Rattle.std.specs.List.{AllZip}
 use Rattle.flk_exact.specs.Fraction.{Fraction}
 use Rattle.flk_exact.specs.Cut.{half_periods}
-use Rattle.flk_num.specs.Lamp.{half_of}
+use Rattle.flk_num.specs.Rate.{half_at}
 use Rattle.flk_num.specs.declared.interval.Interval.{Interval}
 use Rattle.flk_scale.specs.Voltage.{is_below_zero, IsVoltageInterval}
 use Rattle.flk_scale.specs.Scale.{voltage_of, nominal_of, uncertainty_of}
 use Rattle.flk_half.specs.Cutter.{IsHalfPeriodInterval, Stands}
 use Rattle.flk_dat.specs.Records.{DataRecord}
-use Rattle.flk_top.specs.Levels.{IsWithinRange, AreExtremeIntervalsIfAny}
+use Rattle.flk_scale.specs.Range.{IsWithinRange}
+use Rattle.flk_top.specs.Levels.{AreExtremeIntervalsIfAny}
 use Rattle.flk_cfg.specs.declared.config.Analog.{Analog}
 use Rattle.flk_cfg.specs.declared.config.Config.{Config}
 use Rattle.flk_scale.specs.Scale.{IsScaleOf}
@@ -22,15 +23,20 @@ use Rattle.flk_top.specs.declared.measure.Measure.{Measure}
 abbrev pub told_voltage : Measure → DataRecord → Fraction
 told_voltage m r = voltage_of m.matched.scale (slice_index_or r.analog m.channel (pos 0))
 
+-- the samples of half a nominal period
+abbrev pub half_of : Matched → ℕ
+half_of m = half_at m.lamp m.rate
+
 -- The state stands for these recorded voltages, none of which is over range: the cutter stands for their signs and intervals, whose
 -- half-periods are so many and have these extremes.
 pub record HasMeasured (m : Measure) (recorded : List Fraction) : Type 0 where
   pub voltages : List Interval
   pub cuts : List ℕ
   pub intervals : List Interval
-  pub are_voltages : AllZip (IsVoltageInterval (nominal_of m.matched.scale) (uncertainty_of m.matched.scale)) recorded voltages
-  pub stands : Stands m.cutter (half_of m.matched.lamp) (map is_below_zero recorded) voltages cuts
-  pub are_intervals : AllZip (IsHalfPeriodInterval (half_of m.matched.lamp)) (half_periods cuts voltages) intervals
+  pub are_voltages : AllZip (IsVoltageInterval (nominal_of m.matched.scale) (uncertainty_of m.matched.scale))
+      recorded voltages
+  pub stands : Stands m.cutter (half_of m.matched) (map is_below_zero recorded) voltages cuts
+  pub are_intervals : AllZip (IsHalfPeriodInterval (half_of m.matched)) (half_periods cuts voltages) intervals
   pub count : m.levels.count ≡ length cuts
   pub extremes : AreExtremeIntervalsIfAny intervals m.levels.extremes
   pub within : IsWithinRange (nominal_of m.matched.scale) recorded
@@ -45,3 +51,4 @@ pub record IsSameMeasurement (old new : Measure) : Type 0 where
 pub record IsMatched (c : Config) (command : LevelsCommand) (a : Analog) (m : Matched) : Type 0 where
   pub matches : Matches c command.channel a m.lamp
   pub scale : IsScaleOf a command.supply m.scale
+  pub rate : m.rate ≡ c.rate

@@ -1,29 +1,47 @@
 -- What a reply says, and what composing it leaves of the shelf. Contracts of private functions cite this file.
-use Rattle.std.specs.Prelude.{◌≡◌, ◌≢◌, ℕ, ◌≤◌, List, Option, string_bytes}
-use Rattle.flk_io.specs.Causes.{Rose, AllStay}
+use Rattle.std.specs.Prelude.{◌≡◌, ◌≢◌, ℕ, ◌<◌, List, [], length, map, Some, slice_index_or, Contains, string_bytes}
+use Rattle.std.specs.List.{AllZip}
+use Rattle.flk_io.specs.Causes.{Rose}
+use Rattle.flk_io.specs.Told.{ShelfTold}
 use Rattle.flk_num.specs.declared.stop.Stop.{Stop}
 use Rattle.flk_num.specs.declared.stop.Stop.TheVariants as stop
-use Rattle.flk_top.specs.Faults.{read_line, IsConfigurationFault}
+use Rattle.flk_top.specs.Answer.{IsDueFor, ComesToTurn}
+use Rattle.flk_top.specs.Faults.{read_line}
+use Rattle.flk_top.specs.Outcome.{Outcome}
+use Rattle.flk_top.specs.Status.{status_number}
+use Rattle.flk_top.specs.Told.{MayHold}
+use Rattle.flk_top.specs.declared.command.Command.{Command}
 use Rattle.flk_top.specs.declared.reply.Reply.{Reply}
-use Rattle.flk_top.specs.declared.reply.Status.TheVariants.{Refused, ReadFailed}
+use Rattle.flk_top.specs.declared.reply.Status.TheVariants.{ReadFailed}
+
+-- the outcome that a reply tells
+abbrev pub outcome_of : Reply → Outcome
+outcome_of r = record { status = status_number r.status; text = string_bytes r.text; pieces = [] }
 
 -- the reply that stops has the property; want of memory says nothing
 abbrev pub IsRefusal : (Reply → Type 0) → Stop Reply → Type 0
 IsRefusal P (stop.Fault r) = P r
 IsRefusal P stop.OutOfMemory = Unit {0}
 
--- the reply tells the first fault of the configuration's bytes
-pub record IsConfigurationReply (bytes : List ℕ) (r : Reply) : Type 0 where
-  pub status : r.status ≡ Refused
-  pub text : IsConfigurationFault bytes (string_bytes r.text)
+-- Unless it tells of a failed read, the reply is due for some contents of the inputs, which are those told where they are told.
+abbrev pub IsExplained : Command → (names : List (List ℕ)) → ShelfTold → Reply → Type 0
+IsExplained q names told r =
+    r.status ≢ ReadFailed
+    → (contents : List (List ℕ)) × AllZip MayHold (map told.left names) contents × IsDueFor q contents (outcome_of r)
 
 -- The reply tells of a failed read only where one came, and else the count of failed reads is as it was.
-pub record IsHonestReply (before now : ℕ) (r : Reply) : Type 0 where
-  pub read : r.status ≡ ReadFailed → (string_bytes r.text ≡ read_line) × Rose before now
-  pub quiet : r.status ≢ ReadFailed → now ≡ before
+pub record IsHonest (old new : ShelfTold) (r : Reply) : Type 0 where
+  pub text : r.status ≡ ReadFailed → string_bytes r.text ≡ read_line
+  pub rose : r.status ≡ ReadFailed → Rose old.read_faults new.read_faults
+  pub quiet : r.status ≢ ReadFailed → new.read_faults ≡ old.read_faults
 
--- The shelf was read at most: the count of failed reads didn't fall, and nothing was appended, nor failed to be.
-pub record OnlyReads (reads_before reads_now appends_before appends_now : ℕ) (added_before added_now : List ℕ → Option (List ℕ)) : Type 0 where
-  pub later : reads_before ≤ reads_now
-  pub append_faults : appends_now ≡ appends_before
-  pub added : AllStay added_before added_now
+-- what is left under each name but these is as it was
+abbrev pub ReadsOnly : (names : List (List ℕ)) → (old new : ShelfTold) → Type 0
+ReadsOnly names old new = (name : List ℕ) → ¬ Contains names name → new.left name ≡ old.left name
+
+-- an input that doesn't come to its turn is left as it was
+abbrev pub AwaitsTurns : Command → (names : List (List ℕ)) → (old new : ShelfTold) → Type 0
+AwaitsTurns q names old new =
+    (contents : List (List ℕ)) → map old.left names ≡ map Some contents
+    → (i : ℕ) → i < length names → ¬ ComesToTurn q contents i
+    → new.left (slice_index_or names i []) ≡ old.left (slice_index_or names i [])

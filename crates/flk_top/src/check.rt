@@ -1,19 +1,21 @@
 //! The command `check`.
 
-ghost use Rattle.std.specs.Prelude.{◌≡◌, ◌≢◌, ℕ, ◌<◌, List, Some, length, IfOk, string_bytes};
-ghost use Rattle.flk_io.specs.Causes.{OthersStay};
+ghost use Rattle.std.specs.Prelude.{◌≡◌, ◌≢◌, ℕ, List, ◌++◌, IsSome, IfSome, IfOk, string_bytes};
+ghost use Rattle.flk_io.specs.Told.{OnlyReads, ReadsUnder};
 ghost use Rattle.flk_cfg.specs.Valid.{IsValid};
-ghost use Rattle.flk_top.specs.Command.{IsCheck, configuration_name, data_name};
-ghost use Rattle.flk_dat.specs.Records.{DataRecord, record_at};
+ghost use Rattle.flk_dat.specs.Records.{DataRecord};
+ghost use Rattle.flk_top.specs.CheckDue.{IsDueForSummary};
 ghost use Rattle.flk_top.specs.Checking.{IsFirstNumber};
-ghost use Rattle.flk_top.specs.Answer.{Tells, IsDueForCheck, IsDue, ReadsData};
-ghost use Rattle.flk_top.specs.Status.{status_number};
-ghost use Rattle.flk_top.specs.Replies.{IsHonestReply, OnlyReads};
+ghost use Rattle.flk_top.specs.Command.{IsCheck, inputs_of};
+ghost use Rattle.flk_top.specs.Replies.{outcome_of, IsExplained, IsHonest, ReadsOnly, AwaitsTurns};
+ghost use Rattle.flk_top.specs.Text.{check_text};
+ghost use Rattle.flk_top.specs.Told.{MayHold};
+ghost use Rattle.flk_top.specs.declared.command.Command.TheVariants as commands;
 ghost use Rattle.flk_top.specs.declared.reply.Status.TheVariants as statuses;
 
+use crate::blocks::{Blocks, Progress};
 use crate::command::{CONFIGURATION_WORD, DATA_WORD};
 use crate::configuration::read_configuration;
-use crate::data::{DataStop, Taker, read_data};
 use crate::faults::{data_reply, read_reply};
 use crate::reply::{Reply, Status};
 use crate::text::check_lines;
@@ -23,43 +25,30 @@ use flk_io::{OutOfMemory, Shelf, Words};
 use flk_num::Stop;
 use std::alloc::Global;
 
-/// The sample number of the first record that was taken.
-#[derive(Clone, Copy, Debug)]
-pub struct FirstNumber {
-    pub number: Option<u32>,
+// The sample number of the first record, after one block more.
+fn first_number(first: Option<u32>, block: &Block) -> Option<u32>
+    ensures { (rs : List DataRecord) → IsFirstNumber first rs → IsFirstNumber result (rs ++ block.now.records) }
+{
+    if first.is_none() && block.rows() > 0 {
+        return Some(block.number(0));
+    }
+    first
 }
 
-impl FirstNumber {
-    // The number, once a record was taken.
-    fn get(&self) -> u32
-        requires { (rs : List DataRecord) × (0 < length rs) × IsFirstNumber self.now.number rs }
-        ensures { (rs : List DataRecord) → IsFirstNumber self.now.number rs → result ≡ (record_at rs 0).number }
-    {
-        match self.number {
-            Some(number) => number,
-            None => unreachable!(),
-        }
-    }
-}
-
-impl Taker for FirstNumber {
-    type Purpose = ();
-
-    ghost purpose = { λ _. tt };
-
-    ghost stands = { λ first rs. IsFirstNumber first.number rs };
-
-    // No record is refused.
-    ghost refuses = { λ _ _ _. ⊥ };
-
-    ghost channels = { λ _. 0 };
-
-    fn take(&mut self, block: &Block) -> Result<(), u32> {
-        if self.number.is_none() && block.rows() > 0 {
-            self.number = Some(block.number(0));
-        }
-        Ok(())
-    }
+// The answer of data that are accepted, from the sample number of their first record.
+fn summary_done(alloc: Global, config: &Config, first: Option<u32>) -> Result<Reply, OutOfMemory>
+    requires { IsSome first }
+    ensures { IfOk result (λ r. (r.status ≡ statuses.Done)
+        × IfSome first (λ n. string_bytes r.text ≡ check_text config.now n)) }
+{
+    let Some(number) = first else {
+        unreachable!();
+    };
+    let text = check_lines(alloc, config, number)?;
+    Ok(Reply {
+        status: Status::Done,
+        text,
+    })
 }
 
 // Reads the data, and composes the answer.
@@ -70,26 +59,24 @@ fn summary_reply<F: Shelf>(
     config: &Config,
 ) -> Result<Reply, OutOfMemory>
     requires { IsValid config.now }
-    ensures due { IfOk result (λ r. r.status ≢ statuses.ReadFailed → (bytes : List ℕ) → F.left shelf.old name.now ≡ Some bytes
-        → IsDueForCheck config.now bytes (status_number r.status) (string_bytes r.text)) }
-    ensures honest { IfOk result (IsHonestReply (F.read_faults shelf.old) (F.read_faults shelf.new)) }
-    ensures only_reads { OnlyReads (F.read_faults shelf.old) (F.read_faults shelf.new) (F.append_faults shelf.old) (F.append_faults shelf.new) (F.added shelf.old) (F.added shelf.new) }
-    ensures others { OthersStay name.now (F.left shelf.old) (F.left shelf.new) }
+    ensures due { IfOk result (λ r. r.status ≢ statuses.ReadFailed → (bytes : List ℕ)
+        × MayHold ((F.told shelf.old).left name.now) bytes × IsDueForSummary config.now bytes (outcome_of r)) }
+    ensures honest { IfOk result (IsHonest (F.told shelf.old) (F.told shelf.new)) }
+    ensures only_reads { OnlyReads (F.told shelf.old) (F.told shelf.new) }
+    ensures others { ReadsUnder name.now (F.told shelf.old) (F.told shelf.new) }
 {
-    let mut first = FirstNumber { number: None };
-    match read_data(alloc, shelf, name, config, &[], &mut first) {
-        Ok(()) => {
-            let text = check_lines(alloc, config, first.get())?;
-            Ok(Reply {
-                status: Status::Done,
-                text,
-            })
+    let mut blocks = Blocks::new(alloc, config, &[])?;
+    let mut first = None;
+    loop {
+        let Ok(progress) = blocks.next(shelf, name) else {
+            return read_reply(alloc);
+        };
+        first = first_number(first, blocks.block());
+        match progress {
+            Progress::Full => {}
+            Progress::Ended => return summary_done(alloc, config, first),
+            Progress::Fault(fault) => return data_reply(alloc, fault),
         }
-        Err(DataStop::Failed) => read_reply(alloc),
-        Err(DataStop::Fault(fault)) => data_reply(alloc, fault),
-        // No record is refused.
-        Err(DataStop::Refused(_)) => unreachable!(),
-        Err(DataStop::OutOfMemory) => Err(OutOfMemory),
     }
 }
 
@@ -100,13 +87,12 @@ pub fn check_reply<F: Shelf>(
     shelf: &mut F,
 ) -> Result<Reply, OutOfMemory>
     requires { IsCheck words.now }
-    ensures due { IfOk result (λ r. r.status ≢ statuses.ReadFailed → (files : List ℕ → List ℕ) → Tells (F.left shelf.old) files
-        → IsDue words.now files (status_number r.status) (string_bytes r.text)) }
-    ensures honest { IfOk result (IsHonestReply (F.read_faults shelf.old) (F.read_faults shelf.new)) }
-    ensures only_reads { OnlyReads (F.read_faults shelf.old) (F.read_faults shelf.new) (F.append_faults shelf.old) (F.append_faults shelf.new) (F.added shelf.old) (F.added shelf.new) }
-    ensures others { (name : List ℕ) → name ≢ configuration_name words.now → name ≢ data_name words.now → F.left shelf.new name ≡ F.left shelf.old name }
-    ensures unread { (files : List ℕ → List ℕ) → Tells (F.left shelf.old) files → ¬ ReadsData words.now files
-        → F.left shelf.new (data_name words.now) ≡ F.left shelf.old (data_name words.now) }
+    ensures due { IfOk result (IsExplained commands.Check (inputs_of commands.Check words.now) (F.told shelf.old)) }
+    ensures honest { IfOk result (IsHonest (F.told shelf.old) (F.told shelf.new)) }
+    ensures only_reads { OnlyReads (F.told shelf.old) (F.told shelf.new) }
+    ensures names { ReadsOnly (inputs_of commands.Check words.now) (F.told shelf.old) (F.told shelf.new) }
+    ensures turn { AwaitsTurns commands.Check (inputs_of commands.Check words.now)
+        (F.told shelf.old) (F.told shelf.new) }
 {
     match read_configuration(alloc, shelf, words.word(CONFIGURATION_WORD)) {
         Ok(config) => summary_reply(alloc, shelf, words.word(DATA_WORD), &config),

@@ -1,11 +1,13 @@
 //! The words of a command, and what they ask for.
 
-ghost use Rattle.std.specs.Prelude.{ℕ, IfSome, IfNone, IsTrue, ◌↔◌};
+ghost use Rattle.std.specs.Prelude.{◌≡◌, ◌≢◌, ℕ, IfSome, IfNone, IsTrue, ◌↔◌};
 ghost use Rattle.flk_num.specs.declared.lamp.Lamp.{Lamp as LampView};
-ghost use Rattle.flk_top.specs.Command.{IsNumber, IsNumberIn, IsLevels, IsCheck, IsTables, AsksLevels, Asks, IsNoCommand};
+ghost use Rattle.flk_num.specs.declared.rate.Rate.{Rate as RateView};
+ghost use Rattle.flk_top.specs.Command.{IsNumber, IsNumberIn, IsLevels, IsCheck, lamp_word, AsksRate, IsTables, Asks, IsNoCommand};
+ghost use Rattle.flk_top.specs.declared.command.Command.TheVariants as commands;
 
 use flk_io::Words;
-use flk_num::Lamp;
+use flk_num::{Lamp, Rate};
 use flk_scale::Supply;
 
 /// What `levels` is asked for, beside the names of its two files.
@@ -21,8 +23,8 @@ pub struct LevelsCommand {
 pub enum Command {
     Levels(LevelsCommand),
     Check,
-    /// The tables of a lamp.
-    Tables(Lamp),
+    /// The tables of a lamp at a sampling rate.
+    Tables(Lamp, Rate),
 }
 
 /// The name of the configuration, and the name of the data.
@@ -54,8 +56,9 @@ fn number_in(word: &str, low: u32, high: u32) -> Option<u32>
 
 // What `levels` is asked for, and None exactly where the words don't have its shape.
 fn levels_command(words: &Words) -> Option<LevelsCommand>
-    ensures some { IfSome result (AsksLevels words.now) }
-    ensures none { IfNone result ((channel nominal uncertainty : ℕ) → ¬ IsLevels words.now channel nominal uncertainty) }
+    ensures some { IfSome result (λ command. Asks words.now (commands.Levels command)) }
+    ensures none { IfNone result ((channel nominal uncertainty : ℕ)
+        → ¬ IsLevels words.now channel nominal uncertainty) }
 {
     if words.len() != 6
         || words.word(0) != "levels"
@@ -82,18 +85,50 @@ fn is_check(words: &Words) -> bool
         && words.word(CONFIGURATION_WORD) != words.word(DATA_WORD)
 }
 
-// The lamp that `tables` is asked for, and None exactly where the words don't have its shape.
-fn tables_command(words: &Words) -> Option<Lamp>
-    ensures some { IfSome result (IsTables words.now) }
-    ensures none { IfNone result ((lamp : LampView) → ¬ IsTables words.now lamp) }
+// The lamp of a word.
+fn lamp_of_word(word: &str) -> Option<Lamp>
+    ensures some { IfSome result (λ lamp. word.now ≡ lamp_word lamp) }
+    ensures none { IfNone result ((lamp : LampView) → word.now ≢ lamp_word lamp) }
 {
-    if words.len() != 2 || words.word(0) != "tables" {
-        return None;
-    }
-    match words.word(1) {
+    match word {
         "230/50" => Some(Lamp::L230),
         "120/60" => Some(Lamp::L120),
         _ => None,
+    }
+}
+
+// The rate that `tables` is asked for: 2400 samples a second where no word names one.
+fn rate_of_words(words: &Words) -> Option<Rate>
+    ensures some { IfSome result (AsksRate words.now) }
+    ensures none { IfNone result ((rate : RateView) → ¬ AsksRate words.now rate) }
+{
+    if words.len() == 2 {
+        return Some(Rate::R2400);
+    }
+    if words.len() != 3 {
+        return None;
+    }
+    match words.word(2) {
+        "2400" => Some(Rate::R2400),
+        "4800" => Some(Rate::R4800),
+        _ => None,
+    }
+}
+
+// The lamp and the rate that `tables` is asked for, and None exactly where the words don't have its shape.
+fn tables_command(words: &Words) -> Option<(Lamp, Rate)>
+    ensures some { IfSome result (λ pair. IsTables words.now pair.0 pair.1) }
+    ensures none { IfNone result ((lamp : LampView) (rate : RateView) → ¬ IsTables words.now lamp rate) }
+{
+    if words.len() < 2 || words.word(0) != "tables" {
+        return None;
+    }
+    let Some(lamp) = lamp_of_word(words.word(1)) else {
+        return None;
+    };
+    match rate_of_words(words) {
+        Some(rate) => Some((lamp, rate)),
+        None => None,
     }
 }
 
@@ -102,9 +137,14 @@ pub fn command_of(words: &Words) -> Option<Command>
     ensures some { IfSome result (Asks words.now) }
     ensures none { IfNone result (IsNoCommand words.now) }
 {
-    match levels_command(words) {
-        Some(command) => Some(Command::Levels(command)),
-        None if is_check(words) => Some(Command::Check),
-        None => Some(Command::Tables(tables_command(words)?)),
+    if let Some(command) = levels_command(words) {
+        return Some(Command::Levels(command));
+    }
+    if is_check(words) {
+        return Some(Command::Check);
+    }
+    match tables_command(words) {
+        Some((lamp, rate)) => Some(Command::Tables(lamp, rate)),
+        None => None,
     }
 }

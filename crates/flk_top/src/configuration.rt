@@ -1,13 +1,16 @@
 //! The configuration that the words of a command name.
 
-ghost use Rattle.std.specs.Prelude.{◌≡◌, ◌≢◌, ℕ, List, Some, IfOk, IfErr, string_bytes};
-ghost use Rattle.flk_io.specs.Causes.{OthersStay, TakesAll};
+ghost use Rattle.std.specs.Prelude.{◌≡◌, ◌≢◌, ℕ, List, IfOk, IfErr, string_bytes};
+ghost use Rattle.flk_io.specs.Causes.{TakesAll};
+ghost use Rattle.flk_io.specs.Told.{OnlyReads, ReadsUnder};
 ghost use Rattle.flk_cfg.specs.Valid.{IsValid};
 ghost use Rattle.flk_cfg.specs.Kinds.{kind_number};
 ghost use Rattle.flk_cfg.specs.declared.kind.Kind.TheVariants as kinds;
+ghost use Rattle.flk_top.specs.Configuration.{IsConfiguration, IsConfigurationFault};
 ghost use Rattle.flk_top.specs.Faults.{configuration_line};
-ghost use Rattle.flk_top.specs.Answer.{IsConfiguration};
-ghost use Rattle.flk_top.specs.Replies.{IsRefusal, IsConfigurationReply, IsHonestReply, OnlyReads};
+ghost use Rattle.flk_top.specs.Outcome.{refusal};
+ghost use Rattle.flk_top.specs.Replies.{outcome_of, IsRefusal, IsHonest};
+ghost use Rattle.flk_top.specs.Told.{MayHold};
 ghost use Rattle.flk_top.specs.declared.reply.Status.TheVariants as statuses;
 
 use crate::faults::{configuration_reply, read_reply};
@@ -22,7 +25,8 @@ const CONFIGURATION_LIMIT: usize = 1_048_576;
 
 // The reply to a configuration file above its limit: a fault of its length, which no line has.
 fn too_long_reply(alloc: Global) -> Result<Reply, OutOfMemory>
-    ensures { IfOk result (λ r. (r.status ≡ statuses.Refused) × (string_bytes r.text ≡ configuration_line 0 0 (kind_number kinds.Length))) }
+    ensures { IfOk result (λ r. (r.status ≡ statuses.Refused)
+        × (string_bytes r.text ≡ configuration_line 0 0 (kind_number kinds.Length))) }
 {
     let fault = CfgFault {
         line: 0,
@@ -39,13 +43,15 @@ pub fn read_configuration<F: Shelf>(
     name: &str,
 ) -> Result<Config, Stop<Reply>>
     ensures valid { IfOk result IsValid }
-    ensures configuration { IfOk result (λ c. (bytes : List ℕ) × TakesAll (F.left shelf.old name.now) (F.left shelf.new name.now) bytes × IsConfiguration bytes c) }
-    ensures refusal { IfErr result (IsRefusal (λ r. r.status ≢ statuses.ReadFailed → (bytes : List ℕ) → F.left shelf.old name.now ≡ Some bytes → IsConfigurationReply bytes r)) }
-    ensures honest { IfErr result (IsRefusal (IsHonestReply (F.read_faults shelf.old) (F.read_faults shelf.new))) }
-    ensures known { IfErr result (IsRefusal (λ r. r.status ≢ statuses.Done)) }
-    ensures quiet { IfOk result (λ c. F.read_faults shelf.new ≡ F.read_faults shelf.old) }
-    ensures only_reads { OnlyReads (F.read_faults shelf.old) (F.read_faults shelf.new) (F.append_faults shelf.old) (F.append_faults shelf.new) (F.added shelf.old) (F.added shelf.new) }
-    ensures others { OthersStay name.now (F.left shelf.old) (F.left shelf.new) }
+    ensures configuration { IfOk result (λ c. (bytes : List ℕ)
+        × MayHold ((F.told shelf.old).left name.now) bytes × IsConfiguration bytes c) }
+    ensures refusal { IfErr result (IsRefusal (λ r. r.status ≢ statuses.ReadFailed → (bytes : List ℕ) × (line : List ℕ)
+        × MayHold ((F.told shelf.old).left name.now) bytes × IsConfigurationFault bytes line
+        × (outcome_of r ≡ refusal line))) }
+    ensures honest { IfErr result (IsRefusal (IsHonest (F.told shelf.old) (F.told shelf.new))) }
+    ensures quiet { IfOk result (λ c. (F.told shelf.new).read_faults ≡ (F.told shelf.old).read_faults) }
+    ensures only_reads { OnlyReads (F.told shelf.old) (F.told shelf.new) }
+    ensures others { ReadsUnder name.now (F.told shelf.old) (F.told shelf.new) }
 {
     let bytes = match read_all(alloc, shelf, name, CONFIGURATION_LIMIT) {
         Ok(bytes) => bytes,

@@ -2,14 +2,14 @@
 
 ghost use Rattle.std.specs.Prelude.{◌≡◌, ◌+◌, IfOk, string_bytes};
 ghost use Rattle.flk_text.specs.PlainText.{plain};
-ghost use Rattle.flk_top.specs.Faults.{usage_line, read_line, configuration_line, match_line, data_line, range_line};
+ghost use Rattle.flk_top.specs.Faults.{usage_line, read_line, configuration_line, match_line, data_line, range_line, lamp_line};
 ghost use Rattle.flk_top.specs.declared.reply.Status.TheVariants as statuses;
 
-use crate::matching::MatchFault;
 use crate::reply::{Reply, Status, line};
 use flk_cfg::CfgFault;
 use flk_dat::DatFault;
 use flk_io::OutOfMemory;
+use flk_scale::MatchFault;
 use flk_text::{DecimalValue, push_decimal};
 use std::alloc::Global;
 
@@ -29,7 +29,8 @@ pub fn read_reply(alloc: Global) -> Result<Reply, OutOfMemory>
 
 /// The reply to the first fault of a configuration.
 pub fn configuration_reply(alloc: Global, fault: CfgFault) -> Result<Reply, OutOfMemory>
-    ensures { IfOk result (λ r. (r.status ≡ statuses.Refused) × (string_bytes r.text ≡ configuration_line fault.line fault.field fault.kind)) }
+    ensures { IfOk result (λ r. (r.status ≡ statuses.Refused)
+        × (string_bytes r.text ≡ configuration_line fault.line fault.field fault.kind)) }
 {
     let line = fault.line;
     let field = fault.field;
@@ -53,20 +54,27 @@ fn plain_text(alloc: Global, d: DecimalValue) -> Result<String, OutOfMemory>
 fn match_text(alloc: Global, fault: MatchFault) -> Result<String, OutOfMemory>
     ensures { IfOk result (λ text. string_bytes text ≡ match_line fault) }
 {
+    let number = fault.number();
     match fault {
         MatchFault::Channel { asked, there } => format!(in alloc;
-            "fault match 1 {asked} {there}\n"
+            "fault match {number} {asked} {there}\n"
         ),
-        MatchFault::Unit { channel } => format!(in alloc; "fault match 2 {channel} 0\n"),
-        MatchFault::Scale { channel } => format!(in alloc; "fault match 3 {channel} 0\n"),
-        MatchFault::Lamp { lf } => {
+        MatchFault::Unit { channel } => format!(in alloc; "fault match {number} {channel} 0\n"),
+        MatchFault::Scale { channel } => format!(in alloc; "fault match {number} {channel} 0\n"),
+        MatchFault::Lamp { hertz, lf } => {
             let lf = plain_text(alloc, lf)?;
-            format!(in alloc; "fault match 4 0 {lf}\n")
+            format!(in alloc; "fault match {number} {hertz} {lf}\n")
         }
+        MatchFault::TooShort { needed, there } => format!(in alloc;
+            "fault match {number} {needed} {there}\n"
+        ),
+        MatchFault::TooLong { limit, there } => format!(in alloc;
+            "fault match {number} {limit} {there}\n"
+        ),
     }
 }
 
-/// The reply to a channel that can't be measured.
+/// The reply to a recording that can't be measured as it is asked for.
 pub fn match_reply(alloc: Global, fault: MatchFault) -> Result<Reply, OutOfMemory>
     ensures { IfOk result (λ r. (r.status ≡ statuses.Refused) × (string_bytes r.text ≡ match_line fault)) }
 {
@@ -79,7 +87,8 @@ pub fn match_reply(alloc: Global, fault: MatchFault) -> Result<Reply, OutOfMemor
 
 /// The reply to the first fault of data.
 pub fn data_reply(alloc: Global, fault: DatFault) -> Result<Reply, OutOfMemory>
-    ensures { IfOk result (λ r. (r.status ≡ statuses.Refused) × (string_bytes r.text ≡ data_line fault.row fault.field fault.kind)) }
+    ensures { IfOk result (λ r. (r.status ≡ statuses.Refused)
+        × (string_bytes r.text ≡ data_line fault.row fault.field fault.kind)) }
 {
     let record = fault.row;
     let field = fault.field;
@@ -93,10 +102,22 @@ pub fn data_reply(alloc: Global, fault: DatFault) -> Result<Reply, OutOfMemory>
 
 /// The reply to a record, counted from 0, whose voltage in a channel is over range.
 pub fn range_reply(alloc: Global, place: u32, channel: u32) -> Result<Reply, OutOfMemory>
-    ensures { IfOk result (λ r. (r.status ≡ statuses.Refused) × (string_bytes r.text ≡ range_line (place + 1) channel)) }
+    ensures { IfOk result (λ r. (r.status ≡ statuses.Refused)
+        × (string_bytes r.text ≡ range_line (place + 1) channel)) }
 {
     let row = u64::from(place) + 1;
     let text = format!(in alloc; "fault range {row} {channel}\n")?;
+    Ok(Reply {
+        status: Status::Refused,
+        text,
+    })
+}
+
+/// The reply to a lamp of which a section, counted from 1, isn't certified.
+pub fn lamp_reply(alloc: Global, section: usize) -> Result<Reply, OutOfMemory>
+    ensures { IfOk result (λ r. (r.status ≡ statuses.Refused) × (string_bytes r.text ≡ lamp_line section)) }
+{
+    let text = format!(in alloc; "fault lamp {section}\n")?;
     Ok(Reply {
         status: Status::Refused,
         text,

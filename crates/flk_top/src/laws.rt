@@ -6,22 +6,41 @@ ghost use Rattle.flk_exact.specs.Run.{IsAdmittedRun};
 ghost use Rattle.flk_exact.specs.HalfPeriod.{AreHalfPeriodValues};
 ghost use Rattle.flk_exact.specs.Extreme.{IsLeast, IsGreatest};
 ghost use Rattle.flk_top.specs.Answer.{IsDue};
+ghost use Rattle.flk_top.specs.Command.{Asks, IsInput};
+ghost use Rattle.flk_top.specs.Outcome.{Outcome};
+ghost use Rattle.flk_top.specs.Told.{Files};
+ghost use Rattle.flk_top.specs.declared.command.Command.{Command as CommandView};
 
-/// Whatever the words and the files are, no two answers are due: the status is one, and the text is one to its last digit.
-pub fn answer_is_one()
-    ensures { (words : List (List ℕ)) (files : List ℕ → List ℕ) (s t : ℕ) (xs ys : List ℕ) → IsDue words files s xs → IsDue words files t ys → (s ≡ t) × (xs ≡ ys) }
+/// Words ask for one command at most.
+pub fn words_ask_one_command()
+    ensures { (words : List (List ℕ)) (p q : CommandView) → Asks words p → Asks words q → p ≡ q }
 {}
 
-/// For any words and any files some answer is due. With the law above it is one.
+/// Whatever the words and the files are, no two outcomes are due: the status is one, and the text is one to its last digit.
+pub fn answer_is_one()
+    ensures { (words : List (List ℕ)) (files : Files) (o p : Outcome)
+        → IsDue words files o → IsDue words files p → o ≡ p }
+{}
+
+/// For any words and any files some outcome is due. With the law above it is one.
 pub fn an_answer_is_due()
-    ensures { (words : List (List ℕ)) (files : List ℕ → List ℕ) → (status : ℕ) × (text : List ℕ) × IsDue words files status text }
+    ensures { (words : List (List ℕ)) (files : Files) → (o : Outcome) × IsDue words files o }
+{}
+
+/// Only the bytes of the inputs decide what is due.
+pub fn inputs_decide()
+    ensures { (words : List (List ℕ)) (files others : Files)
+        → ((name : List ℕ) → IsInput words name → others name ≡ files name)
+        → (o : Outcome) → IsDue words files o → IsDue words others o }
 {}
 
 /// The promise on every exact run speaks of some run. For each list of cuts that is not empty there is a run that the recorded voltages
 /// admit, whatever the uncertainty, and its half-periods have values, of which one is the least and one the greatest. (`nominal` is in
 /// millivolts, `uncertainty` and the voltages are in microvolts, and `half` counts the samples of half a nominal period.)
 pub fn promise_is_not_empty()
-    ensures { (half nominal uncertainty : ℕ) (recorded : List Fraction) (cuts : List ℕ) → 0 < half → 0 < nominal → 0 < length cuts
-        → (run : List Fraction) × (values : List ℤ) × (least : ℤ) × (greatest : ℤ) × IsAdmittedRun (1000 * nominal) uncertainty recorded run
+    ensures { (half nominal uncertainty : ℕ) (recorded : List Fraction) (cuts : List ℕ)
+        → 0 < half → 0 < nominal → 0 < length cuts
+        → (run : List Fraction) × (values : List ℤ) × (least : ℤ) × (greatest : ℤ)
+        × IsAdmittedRun (1000 * nominal) uncertainty recorded run
         × AreHalfPeriodValues half cuts run values × IsLeast values least × IsGreatest values greatest }
 {}

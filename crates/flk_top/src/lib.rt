@@ -1,35 +1,30 @@
 //! The program's top call: from the words of the command line to a status and a text.
 //!
-//! The words are those of a command (`command`), which `answer` calls. Each reads its configuration first (`configuration`) and then
-//! its data, in pieces and blocks of records (`data`). `check` tells of both (`check`). `levels` finds how its channel is measured
-//! (`matching`), turns each sample into the interval of its voltages by the channel's scale, and keeps the least and the greatest value
-//! (`measure`) of the half-periods into which `flk_half` cuts them (`levels`). The answer is composed whole (`text`, `faults`, `reply`)
-//! before `run` writes it. `tables` reads nothing (`tables`). That there is an answer, and one alone, and that its promise speaks of
-//! some run, are laws (`laws`).
+//! The words are those of a command (`command`), which `answer` calls. Each command is one module, and what it answers is one relation:
+//! `levels` (`specs/LevelsDue`), `check` (`specs/CheckDue`) and `tables` (`specs/Tables`); `specs/Answer` is their table. A command
+//! reads its configuration first (`configuration`) and then its data, in pieces and blocks of records (`blocks`). `levels` finds how
+//! its channel is measured (`matching`), turns each sample into the interval of its voltages by the channel's scale, and keeps the least
+//! and the greatest value (`measure`) of the half-periods into which `flk_half` cuts them. `tables` reads nothing: it makes the
+//! certificates of a lamp's sections (`certified`). The answer is composed whole (`text`, `faults`, `reply`) before `run` writes it.
+//!
+//! What is promised of a run, whatever its command is, stands in `specs/Run`: what is written is due for some files that agree with all
+//! that is told of them. That some answer is due, and one alone, and that the promise on levels speaks of some run, are laws (`laws`).
 #![tactic(auto)]
 
-ghost use Rattle.std.specs.Prelude.{◌≡◌, ◌≢◌, ◌⊎◌, ℕ, ◌<◌, List};
+ghost use Rattle.std.specs.Prelude.{ℕ, ◌<◌, ◌≤◌, List};
 ghost use Rattle.std.specs.Io.KnownBytes.{Appends};
-ghost use Rattle.flk_io.specs.Causes.{Rose, AllStay, AddsFront};
-ghost use Rattle.flk_num.specs.Lamp.{half_of};
-ghost use Rattle.flk_num.specs.declared.lamp.Lamp.{Lamp as LampView};
-ghost use Rattle.flk_cfg.specs.declared.config.Analog.{Analog};
-ghost use Rattle.flk_cfg.specs.declared.config.Config.{Config};
-ghost use Rattle.flk_dat.specs.Records.{DataRecord};
-ghost use Rattle.flk_top.specs.Command.{IsTables, IsNoCommand, configuration_name, data_name};
-ghost use Rattle.flk_top.specs.Matching.{recorded_voltages};
-ghost use Rattle.flk_top.specs.Faults.{usage_line, read_line};
-ghost use Rattle.flk_top.specs.Answer.{Tells, IsDue, ReadsData, AreAccepted};
-ghost use Rattle.flk_top.specs.Headline.{TellsLevels};
-ghost use Rattle.flk_top.specs.Tables.{IsDueForTables};
+ghost use Rattle.flk_top.specs.Headline.{MeasuredRecording, AreAccepted, TellsLevels};
+ghost use Rattle.flk_top.specs.Run.{DoneIsDue, CutIsDue, IsCounted, IsConfined, ReadsInTurn};
+ghost use Rattle.flk_top.specs.Told.{TellsInputs};
 
 mod answer;
+mod blocks;
+#[cfg(test)]
+mod blocks_tests;
+mod certified;
 mod check;
 mod command;
 mod configuration;
-mod data;
-#[cfg(test)]
-mod data_tests;
 mod faults;
 mod laws;
 mod levels;
@@ -43,7 +38,9 @@ mod text;
 
 use crate::answer::answer;
 use flk_io::{Shelf, Sink, Words, write_all};
-pub use laws::{an_answer_is_due, answer_is_one, promise_is_not_empty};
+pub use laws::{
+    an_answer_is_due, answer_is_one, inputs_decide, promise_is_not_empty, words_ask_one_command,
+};
 pub use measure::{Extremes, Levels};
 use std::alloc::Global;
 use std::thread::Threads;
@@ -74,50 +71,28 @@ pub fn run<R: Threads + Sync, F: Shelf, K: Sink, G: Gate + Sync>(
     sink: &mut K,
     gate: &G,
 ) -> u8
-    ensures known { (result ≡ 0) ⊎ ((result ≡ 2) ⊎ ((result ≡ 4) ⊎ ((result ≡ 5) ⊎ (result ≡ 6)))) }
+    ensures known { result ≤ 6 }
+
+    // Below 4: what is due for some files that agree with all that is told is done whole.
+    ensures done { DoneIsDue words.now result
+        (F.told shelf.old) (F.told shelf.new) (K.told sink.old) (K.told sink.new) }
+
+    // From 4 on: it is cut off, by a failed read, append or write, or for want of memory.
+    ensures cut { CutIsDue words.now result
+        (F.told shelf.old) (F.told shelf.new) (K.told sink.old) (K.told sink.new) }
+
+    // Failed calls are told, and nothing else raises a count.
+    ensures counts { IsCounted result (F.told shelf.old) (F.told shelf.new) (K.told sink.old) (K.told sink.new) }
+
+    // Only the files that the words name are touched, and each in its turn.
+    ensures names { IsConfined words.now (F.told shelf.old) (F.told shelf.new) }
+    ensures turn { ReadsInTurn words.now (F.told shelf.old) (F.told shelf.new) }
 
     // Files that are accepted: their levels are told, with intervals that hold every exact run and keep the stated width.
-    ensures levels { result ≢ 4 → result ≢ 5 → result ≢ 6 → (files : List ℕ → List ℕ) → Tells (F.left shelf.old) files
-        → (channel nominal uncertainty : ℕ) (c : Config) (a : Analog) (lamp : LampView) (rs : List DataRecord) → AreAccepted words.now files channel nominal uncertainty c a lamp rs
-        → (text : List ℕ) × TellsLevels channel (half_of lamp) nominal uncertainty (recorded_voltages a channel rs) result text × Appends (K.written sink.old) (K.written sink.new) text }
-
-    // Any words and files: the text that is due is written whole, each exactly where its row says.
-    ensures text { result ≢ 4 → result ≢ 5 → result ≢ 6 → (files : List ℕ → List ℕ) → Tells (F.left shelf.old) files
-        → (text : List ℕ) × IsDue words.now files result text × Appends (K.written sink.old) (K.written sink.new) text }
-
-    // A failed read is told only where one came, and a failed write too, with a front of what was due.
-    ensures read { result ≡ 4 → Rose (F.read_faults shelf.old) (F.read_faults shelf.new) }
-    ensures read_text { result ≡ 4 → Appends (K.written sink.old) (K.written sink.new) read_line }
-    ensures read_told { F.read_faults shelf.old < F.read_faults shelf.new → (result ≡ 4) ⊎ ((result ≡ 5) ⊎ (result ≡ 6)) }
-    ensures write { result ≡ 5 → Rose (K.faults sink.old) (K.faults sink.new) }
-    ensures write_text { result ≡ 5 → (files : List ℕ → List ℕ) → Tells (F.left shelf.old) files
-        → ((status : ℕ) × (text : List ℕ) × IsDue words.now files status text × AddsFront (K.written sink.old) (K.written sink.new) text)
-        ⊎ (Rose (F.read_faults shelf.old) (F.read_faults shelf.new) × AddsFront (K.written sink.old) (K.written sink.new) read_line) }
-    ensures write_told { K.faults sink.old < K.faults sink.new → result ≡ 5 }
-
-    // Want of memory is free, and comes before anything is written. Every other answer comes with every count as at entry.
-    ensures memory { result ≡ 6 → K.written sink.new ≡ K.written sink.old }
-    ensures quiet { result ≢ 4 → result ≢ 5 → result ≢ 6 → (F.read_faults shelf.new ≡ F.read_faults shelf.old) × (K.faults sink.new ≡ K.faults sink.old) }
-
-    // Words of no command are told whatever the files are, and nothing is read.
-    ensures usage { IsNoCommand words.now → AllStay (F.left shelf.old) (F.left shelf.new) × (F.read_faults shelf.new ≡ F.read_faults shelf.old) }
-    ensures usage_text { IsNoCommand words.now → result ≢ 5 → result ≢ 6 → (result ≡ 2) × Appends (K.written sink.old) (K.written sink.new) usage_line }
-    ensures usage_front { IsNoCommand words.now → result ≡ 5 → AddsFront (K.written sink.old) (K.written sink.new) usage_line }
-
-    // The tables of a lamp are told whatever the files are, and nothing is read.
-    ensures tables { (lamp : LampView) → IsTables words.now lamp → AllStay (F.left shelf.old) (F.left shelf.new) × (F.read_faults shelf.new ≡ F.read_faults shelf.old) }
-    ensures tables_text { (lamp : LampView) → IsTables words.now lamp → result ≢ 5 → result ≢ 6
-        → (text : List ℕ) × IsDueForTables lamp result text × Appends (K.written sink.old) (K.written sink.new) text }
-    ensures tables_front { (lamp : LampView) → IsTables words.now lamp → result ≡ 5
-        → (status : ℕ) × (text : List ℕ) × IsDueForTables lamp status text × AddsFront (K.written sink.old) (K.written sink.new) text }
-
-    // Nothing is read but under the names of the two files, the data only after a configuration that is accepted and, for levels, has
-    // the channel to measure, and nothing is appended.
-    ensures others { (name : List ℕ) → name ≢ configuration_name words.now → name ≢ data_name words.now → F.left shelf.new name ≡ F.left shelf.old name }
-    ensures unread { (files : List ℕ → List ℕ) → Tells (F.left shelf.old) files → ¬ ReadsData words.now files
-        → F.left shelf.new (data_name words.now) ≡ F.left shelf.old (data_name words.now) }
-    ensures added { AllStay (F.added shelf.old) (F.added shelf.new) }
-    ensures append_faults { F.append_faults shelf.new ≡ F.append_faults shelf.old }
+    ensures levels { result < 4 → (files : List ℕ → List ℕ) → TellsInputs words.now (F.told shelf.old) files
+        → (m : MeasuredRecording) → AreAccepted words.now files m
+        → (text : List ℕ) × TellsLevels m result text
+        × Appends (K.told sink.old).written (K.told sink.new).written text }
 {
     let _ = rt;
     let _ = gate;

@@ -1,14 +1,13 @@
 //! From the samples of a channel to its levels.
 
-ghost use Rattle.std.specs.Prelude.{◌≡◌, ◌+◌, ◌^◌, ◌<◌, ◌≤◌, List, [], ◌∷◌, ◌++◌, OnOk, OnErr};
+ghost use Rattle.std.specs.Prelude.{◌≡◌, ◌+◌, ◌^◌, ◌<◌, ◌≤◌, List, [], ◌∷◌, ◌++◌, length, map, IfErr, OnOk, OnErr};
 ghost use Rattle.std.specs.Int.{int_min, int_max};
 ghost use Rattle.flk_exact.specs.Fraction.{Fraction};
-ghost use Rattle.flk_num.specs.Lamp.{half_of};
 ghost use Rattle.flk_scale.specs.Voltage.{IsOverRange};
 ghost use Rattle.flk_scale.specs.Scale.{voltage_of, nominal_of, uncertainty_of};
+ghost use Rattle.flk_scale.specs.Range.{IsFirstOver};
 ghost use Rattle.flk_top.specs.Levels.{AreLevels, Widens, Gains};
 
-use crate::data::Taker;
 use crate::matching::Matched;
 use flk_dat::Block;
 use flk_half::Cutter;
@@ -96,7 +95,7 @@ pub struct Measure {
 }
 
 impl Measure {
-    ghost use Rattle.flk_top.specs.Measuring.{HasMeasured, IsSameMeasurement};
+    ghost use Rattle.flk_top.specs.Measuring.{half_of, told_voltage, HasMeasured, IsSameMeasurement};
 
     /// Of no sample yet, for a channel, from 0.
     pub fn new(matched: Matched, channel: usize) -> Measure
@@ -108,7 +107,7 @@ impl Measure {
             matched,
             channel,
             taken: 0,
-            cutter: Cutter::new(matched.lamp.half()),
+            cutter: Cutter::new(matched.lamp.half_at(matched.rate)),
             levels: Levels {
                 count: 0,
                 extremes: None,
@@ -120,7 +119,8 @@ impl Measure {
     pub fn levels(&self) -> Levels
         requires { 0 < nominal_of self.now.matched.scale }
         ensures { (recorded : List Fraction) → HasMeasured self.now recorded
-            → AreLevels (half_of self.now.matched.lamp) (nominal_of self.now.matched.scale) (uncertainty_of self.now.matched.scale) recorded result }
+            → AreLevels (half_of self.now.matched) (nominal_of self.now.matched.scale)
+            (uncertainty_of self.now.matched.scale) recorded result }
     {
         self.levels
     }
@@ -130,8 +130,10 @@ impl Measure {
         requires { self.old.taken + 1 < 2 ^ 32 }
         ensures same { IsSameMeasurement self.old self.new }
         ensures taken { OnOk result (self.new.taken ≡ self.old.taken + 1) }
-        ensures measured { OnOk result ((recorded : List Fraction) → HasMeasured self.old recorded → HasMeasured self.new (recorded ++ voltage_of self.old.matched.scale x ∷ [])) }
-        ensures over { OnErr result (IsOverRange (nominal_of self.old.matched.scale) (voltage_of self.old.matched.scale x)) }
+        ensures measured { OnOk result ((recorded : List Fraction) → HasMeasured self.old recorded
+            → HasMeasured self.new (recorded ++ voltage_of self.old.matched.scale x ∷ [])) }
+        ensures over { OnErr result
+            (IsOverRange (nominal_of self.old.matched.scale) (voltage_of self.old.matched.scale x)) }
         ensures unchanged { OnErr result (self.new ≡ self.old) }
     {
         let voltage = match self.matched.scale.voltage(x) {
@@ -144,25 +146,19 @@ impl Measure {
         self.levels = with_half_period(self.levels, half_period);
         Ok(())
     }
-}
 
-impl Taker for Measure {
-    ghost use Rattle.std.specs.Prelude.{◌+◌, map};
-    ghost use Rattle.flk_scale.specs.Scale.{nominal_of};
-    ghost use Rattle.flk_top.specs.Levels.{IsFirstOver};
-    ghost use Rattle.flk_top.specs.Measuring.{told_voltage, HasMeasured};
-
-    type Purpose = (Matched, usize);
-
-    ghost purpose = { λ m. (m.matched, m.channel) };
-
-    ghost stands = { λ m rs. HasMeasured m (map (told_voltage m) rs) };
-
-    ghost refuses = { λ m rs i. IsFirstOver (nominal_of m.matched.scale) (map (told_voltage m) rs) i };
-
-    ghost channels = { λ m. m.channel + 1 };
-
-    fn take(&mut self, block: &Block) -> Result<(), u32> {
+    /// Takes the records of a block, one sample of each. The error is the index of the first one whose voltage is over range, counted
+    /// from 0 over all records taken.
+    pub fn take(&mut self, block: &Block) -> Result<(), u32>
+        requires channel { self.old.channel < block.now.analog }
+        requires few { self.old.taken + length block.now.records < 2 ^ 32 }
+        ensures same { IsSameMeasurement self.old self.new }
+        ensures measured { OnOk result ((recorded : List Fraction) → HasMeasured self.old recorded
+            → HasMeasured self.new (recorded ++ map (told_voltage self.old) block.now.records)) }
+        ensures over { IfErr result (λ i. (recorded : List Fraction) → HasMeasured self.old recorded
+            → IsFirstOver (nominal_of self.old.matched.scale)
+            (recorded ++ map (told_voltage self.old) block.now.records) i) }
+    {
         for row in 0..block.rows() {
             let Ok(()) = self.sample(block.analog(row, self.channel)) else {
                 return Err(self.taken);

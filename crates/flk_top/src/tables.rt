@@ -1,50 +1,19 @@
 //! The command `tables`: the coefficients of a lamp's sections, and their gains.
 
-ghost use Rattle.std.specs.Prelude.{◌≡◌, List, length, IfOk, IfSome, IfNone, string_bytes};
-ghost use Rattle.flk_cert.specs.declared.certificate.CertRow.{CertRow};
+ghost use Rattle.std.specs.Prelude.{◌≡◌, IfOk, IfSome, IfNone, string_bytes};
 ghost use Rattle.flk_cert.specs.Gain.{input_of, rounding_of};
-ghost use Rattle.flk_top.specs.Tables.{section_line, gain_line, IsCertified, IsRefused, AreSectionLines, IsDueForTables, lamp_line};
-ghost use Rattle.flk_top.specs.Status.{status_number};
-ghost use Rattle.flk_top.specs.declared.reply.Status.TheVariants as statuses;
+ghost use Rattle.flk_top.specs.Certified.{IsRefused};
+ghost use Rattle.flk_top.specs.Replies.{outcome_of};
+ghost use Rattle.flk_top.specs.Tables.{section_line, gain_line, AreSectionLines, IsDueForTables};
 
+use crate::certified::{Certified, certify};
+use crate::faults::lamp_reply;
 use crate::reply::{Reply, Status};
-use flk_cert::{Coefs, Gain, check, make};
-use flk_design::design;
+use flk_cert::Coefs;
+use flk_design::design_at;
 use flk_io::OutOfMemory;
-use flk_num::Lamp;
+use flk_num::{Lamp, Rate};
 use std::alloc::Global;
-
-fn lamp_reply(alloc: Global, section: usize) -> Result<Reply, OutOfMemory>
-    ensures { IfOk result (λ r. (r.status ≡ statuses.Refused) × (string_bytes r.text ≡ lamp_line section)) }
-{
-    let text = format!(in alloc; "fault lamp {section}\n")?;
-    Ok(Reply {
-        status: Status::Refused,
-        text,
-    })
-}
-
-// What a section's certificate shows, and how many rows it has.
-#[derive(Clone, Copy)]
-struct Certified {
-    gain: Gain,
-    rows: usize,
-}
-
-// Makes the certificate of a section and checks it; none where it is refused.
-fn certify(alloc: Global, k: &Coefs) -> Result<Option<Certified>, OutOfMemory>
-    ensures some { IfOk result (λ o. IfSome o (λ c. (rows : List CertRow) × IsCertified k.now rows c.gain × (c.rows ≡ length rows))) }
-    ensures none { IfOk result (λ o. IfNone o (IsRefused k.now)) }
-{
-    let cert = make(alloc, k)?;
-    match check(k, &cert) {
-        Ok(gain) => {
-            let rows = cert.rows.as_slice().len();
-            Ok(Some(Certified { gain, rows }))
-        }
-        Err(_) => Ok(None),
-    }
-}
 
 // The line of section i, counted from 1.
 fn coefs_line(alloc: Global, i: usize, k: &Coefs) -> Result<String, OutOfMemory>
@@ -60,7 +29,8 @@ fn coefs_line(alloc: Global, i: usize, k: &Coefs) -> Result<String, OutOfMemory>
 
 // The line of its gain, and of how many rows its certificate has.
 fn certified_line(alloc: Global, i: usize, certified: Certified) -> Result<String, OutOfMemory>
-    ensures { IfOk result (λ text. string_bytes text ≡ gain_line i (input_of certified.gain) (rounding_of certified.gain) certified.rows) }
+    ensures { IfOk result (λ text. string_bytes text
+        ≡ gain_line i (input_of certified.gain) (rounding_of certified.gain) certified.rows) }
 {
     let input = certified.gain.input();
     let rounding = certified.gain.rounding();
@@ -81,11 +51,12 @@ fn section_lines(alloc: Global, i: usize, k: &Coefs) -> Result<Option<String>, O
     Ok(Some(text))
 }
 
-/// The answer to `tables`: two lines for each section of the lamp's filter, or the first section whose certificate is refused.
-pub fn tables_reply(alloc: Global, lamp: Lamp) -> Result<Reply, OutOfMemory>
-    ensures { IfOk result (λ r. IsDueForTables lamp (status_number r.status) (string_bytes r.text)) }
+/// The answer to `tables`: two lines for each section of the lamp's filter at the rate, or the first section whose certificate is
+/// refused.
+pub fn tables_reply(alloc: Global, lamp: Lamp, rate: Rate) -> Result<Reply, OutOfMemory>
+    ensures { IfOk result (λ r. IsDueForTables lamp rate (outcome_of r)) }
 {
-    let sections = design(lamp);
+    let sections = design_at(lamp, rate);
     let mut text = String::new(alloc);
     for (i, k) in sections.iter().enumerate() {
         match section_lines(alloc, i + 1, k)? {

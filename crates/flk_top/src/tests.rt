@@ -19,16 +19,20 @@ impl Gate for Open {
     }
 }
 
-// 4800 samples, in turn 24 of 230 V and 24 of -230 V.
-pub fn square_wave(alloc: Global) -> Result<Vec<u8>, OutOfMemory> {
+// So many samples, in turn 24 of 230 V and 24 of -230 V.
+pub fn wave(alloc: Global, records: u32) -> Result<Vec<u8>, OutOfMemory> {
     let mut bytes = Vec::new(alloc);
-    for k in 0..4800u32 {
+    for k in 0..records {
         let value: i16 = if k / 24 % 2 == 0 { 23000 } else { -23000 };
         bytes.extend_from_slice(&(k + 1).to_le_bytes())?;
         bytes.extend_from_slice(&[0; 4])?;
         bytes.extend_from_slice(&value.to_le_bytes())?;
     }
     Ok(bytes)
+}
+
+pub fn square_wave(alloc: Global) -> Result<Vec<u8>, OutOfMemory> {
+    wave(alloc, 4800)
 }
 
 // The configuration with one part of its text replaced by another.
@@ -44,8 +48,8 @@ pub fn varied(alloc: Global, old: &str, new: &str) -> Result<String, OutOfMemory
     Ok(text)
 }
 
-// Under X the configuration, under Z the same one in other bytes (lines that end in LF alone, and 0.010 for 0.01), and under Y the
-// data of both.
+// Under X the configuration, under Z the same one in other bytes (lines that end in LF alone, and 0.010 for 0.01), under V that of
+// 4800 samples a second, and under Y the data of all.
 fn filled_shelf(alloc: Global) -> Result<MemShelf, OutOfMemory> {
     let mut other = String::new(alloc);
     for part in varied(alloc, ",0.01,", ",0.010,")?.as_str().split('\r') {
@@ -54,6 +58,8 @@ fn filled_shelf(alloc: Global) -> Result<MemShelf, OutOfMemory> {
     let mut shelf = MemShelf::new(alloc);
     shelf.put("X", varied(alloc, "", "")?.as_bytes())?;
     shelf.put("Z", other.as_bytes())?;
+    let faster = varied(alloc, "2400,4800", "4800,4800")?;
+    shelf.put("V", faster.as_bytes())?;
     shelf.put("Y", &square_wave(alloc)?)?;
     Ok(shelf)
 }
@@ -68,6 +74,9 @@ pub fn words_of(alloc: Global, line: &str) -> Result<Words, OutOfMemory> {
 
 const EXACT: &str =
     "levels channel 1\nhalf-periods 199\nleast 1.000000000 to 1.000000000\ngreatest 1.000000000 to 1.000000000\n";
+
+const EXACT_AT_4800: &str =
+    "levels channel 1\nhalf-periods 199\nleast 0.707106781 to 0.707106781\ngreatest 0.707106781 to 0.707106781\n";
 
 pub const UNCERTAIN: &str =
     "levels channel 1\nhalf-periods 199\nleast 0.999999995 to 1.000000004\ngreatest 0.999999995 to 1.000000004\n";
@@ -104,6 +113,38 @@ section 7 95189809 95189809 0 -4104587678 0
 gain 7 4294967296 46 1
 ";
 
+const TABLES_230_AT_4800: &str = "section 1 4294826748 -4294826748 0 -4294686200 0
+gain 1 8589653496 30559 1
+section 2 2226223 4452446 2226223 -8480418075 4194355671
+gain 2 10800086371 3640 355
+section 3 2181957 4363914 2181957 -8311796237 4025556771
+gain 3 4741867983 1630 191
+section 4 2157193 4314386 2157193 -8217461078 3931122555
+gain 4 4361172101 1517 202
+section 5 44745882 0 -44745882 -8543914690 4249560917
+gain 5 10987163940 32259 878
+section 6 2310066851 -2303183331 0 -4288083777 0
+gain 6 4294967920 1248 1
+section 7 60692059 60692059 0 -4173583178 0
+gain 7 4294967296 71 1
+";
+
+const TABLES_120_AT_4800: &str = "section 1 4294826748 -4294826748 0 -4294686200 0
+gain 1 8589653496 30559 1
+section 2 3197541 6395082 3197541 -8456720041 4174542911
+gain 2 10801838437 2535 296
+section 3 3121739 6243478 3121739 -8256241634 3973761295
+gain 3 4736037231 1138 159
+section 4 3079589 6159178 3079589 -8144765068 3862116129
+gain 4 4359667573 1062 166
+section 5 41509231 0 -41509231 -8542728606 4248364370
+gain 5 9945482157 31866 893
+section 6 2039267604 -2031434915 0 -4287134607 0
+gain 6 4294967296 1097 1
+section 7 48128240 48128240 0 -4198710816 0
+gain 7 4294967296 90 1
+";
+
 #[test]
 fn each_answer(rt: HostRuntime) -> Result<(), Fail> {
     for (line, status, text) in [
@@ -111,12 +152,15 @@ fn each_answer(rt: HostRuntime) -> Result<(), Fail> {
         ("levels X Y 1 230000 1", 0, UNCERTAIN),
         ("levels X Y 1 50000 0", 2, "fault range 1 1\n"),
         ("levels Z Y 1 230000 0", 0, EXACT),
+        ("levels V Y 1 230000 0", 0, EXACT_AT_4800),
         ("levels X X 1 230000 0", 2, "fault usage\n"),
         ("check X X", 2, "fault usage\n"),
         ("check X Y 1", 2, "fault usage\n"),
         ("tables", 2, "fault usage\n"),
         ("tables 230/60", 2, "fault usage\n"),
         ("tables 230/50 X", 2, "fault usage\n"),
+        ("tables 230/50 1200", 2, "fault usage\n"),
+        ("tables 230/50 02400", 2, "fault usage\n"),
         ("", 2, "fault usage\n"),
     ] {
         let words = words_of(rt.alloc(), line)?;
@@ -149,6 +193,7 @@ fn each_fault_of_a_configuration(rt: HostRuntime) -> Result<(), Fail> {
     for (old, new, fault) in [
         (BACK, "", "fault configuration 5 0 1\n"),
         ("1,1A,0D", "1,2A,0D", "fault configuration 2 1 4\n"),
+        ("2400,4800", "1200,4800", "fault configuration 6 1 7\n"),
         ("DAQ,1999", "DAQ", "fault configuration 1 3 6\n"),
         (
             "Y\r\n1\r\n",
@@ -218,7 +263,13 @@ fn failing_shelf(alloc: Global) -> Result<MemShelf, OutOfMemory> {
 // Whatever the reads do, the tables of a lamp are told, and none is made.
 #[test]
 fn tables_of_each_lamp(rt: HostRuntime) -> Result<(), Fail> {
-    for (line, text) in [("tables 230/50", TABLES_230), ("tables 120/60", TABLES_120)] {
+    for (line, text) in [
+        ("tables 230/50", TABLES_230),
+        ("tables 120/60", TABLES_120),
+        ("tables 230/50 2400", TABLES_230),
+        ("tables 230/50 4800", TABLES_230_AT_4800),
+        ("tables 120/60 4800", TABLES_120_AT_4800),
+    ] {
         let words = words_of(rt.alloc(), line)?;
         let mut shelf = failing_shelf(rt.alloc())?;
         let mut sink = MemSink::new(rt.alloc(), 1000, 100)?;

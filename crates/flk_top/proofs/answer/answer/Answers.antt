@@ -1,19 +1,61 @@
-use Rattle.std.proofs.Common.{rules, IfOk, refl, subst, string_bytes}
-use Rattle.flk_num.specs.declared.lamp.Lamp.{Lamp}
-use Rattle.flk_top.specs.Command.{IsTables}
-use Rattle.flk_top.specs.Tables.{IsDueForTables}
-use Rattle.flk_top.specs.Status.{status_number}
-use Rattle.flk_top.proofs.TablesLemmas.{one_lamp}
-use Rattle.flk_top.proofs.Replies.{tables_told}
+use Rattle.std.proofs.Common.{rules, refl, inl, ◌≡◌, string_bytes, IfOk}
+use Rattle.flk_top.specs.Answer.{IsDueFor}
+use Rattle.flk_top.specs.Command.{Asks, inputs_of, configuration_name, data_name, IsNoCommand}
+use Rattle.flk_top.specs.Faults.{usage_line}
+use Rattle.flk_top.specs.declared.command.Command.TheVariants.{Levels, Check, Tables}
+use Rattle.flk_top.proofs.RunLemmas.{usage_replies, tables_replies, explained_all, input_read, confined_reads, turns_await}
 use Rattle.flk_top.proofs.answer.answer.Goals as goal
+
+pub returns-in-None-clause-due : goal.returns-in-None-clause-due
+returns-in-None-clause-due g c = usage_replies c.args.words.now (g.F.Shelf.told c.args.shelf.now) c.usage_reply.result c.in-None.ensures.none c.usage_reply.ensures
+
+-- ---- levels
+
+pub returns-in-Some-Levels-clause-due : goal.returns-in-Some-Levels-clause-due
+returns-in-Some-Levels-clause-due g c =
+    let asks : Asks c.args.words.now (Levels c.in-Some-Levels.command) = search rules in
+    explained_all c.args.words.now (g.F.Shelf.told c.args.shelf.now) (Levels c.in-Some-Levels.command) c.levels_reply.result asks c.levels_reply.ensures.due
+
+pub returns-in-Some-Levels-clause-failed : goal.returns-in-Some-Levels-clause-failed
+returns-in-Some-Levels-clause-failed g c =
+    let asks : Asks c.args.words.now (Levels c.in-Some-Levels.command) = search rules in
+    input_read c.args.words.now (Levels c.in-Some-Levels.command) _ _ c.levels_reply.result asks refl
+
+pub returns-in-Some-Levels-clause-names : goal.returns-in-Some-Levels-clause-names
+returns-in-Some-Levels-clause-names g c =
+    let asks : Asks c.args.words.now (Levels c.in-Some-Levels.command) = search rules in
+    confined_reads c.args.words.now (g.F.Shelf.told c.args.shelf.now) (g.F.Shelf.told c.levels_reply.new.shelf) (Levels c.in-Some-Levels.command) _ _ asks refl c.levels_reply.ensures.only_reads c.levels_reply.ensures.names
+
+pub returns-in-Some-Levels-clause-turn : goal.returns-in-Some-Levels-clause-turn
+returns-in-Some-Levels-clause-turn g c =
+    let asks : Asks c.args.words.now (Levels c.in-Some-Levels.command) = search rules in
+    turns_await c.args.words.now (g.F.Shelf.told c.args.shelf.now) (g.F.Shelf.told c.levels_reply.new.shelf) (Levels c.in-Some-Levels.command) asks c.levels_reply.ensures.turn
+
+-- ---- check
+
+pub returns-in-Some-Check-clause-due : goal.returns-in-Some-Check-clause-due
+returns-in-Some-Check-clause-due g c =
+    let asks : Asks c.args.words.now Check = search rules in
+    explained_all c.args.words.now (g.F.Shelf.told c.args.shelf.now) Check c.check_reply.result asks c.check_reply.ensures.due
+
+pub returns-in-Some-Check-clause-failed : goal.returns-in-Some-Check-clause-failed
+returns-in-Some-Check-clause-failed g c =
+    let asks : Asks c.args.words.now Check = search rules in
+    input_read c.args.words.now Check _ _ c.check_reply.result asks refl
+
+pub returns-in-Some-Check-clause-names : goal.returns-in-Some-Check-clause-names
+returns-in-Some-Check-clause-names g c =
+    let asks : Asks c.args.words.now Check = search rules in
+    confined_reads c.args.words.now (g.F.Shelf.told c.args.shelf.now) (g.F.Shelf.told c.check_reply.new.shelf) Check _ _ asks refl c.check_reply.ensures.only_reads c.check_reply.ensures.names
+
+pub returns-in-Some-Check-clause-turn : goal.returns-in-Some-Check-clause-turn
+returns-in-Some-Check-clause-turn g c =
+    let asks : Asks c.args.words.now Check = search rules in
+    turns_await c.args.words.now (g.F.Shelf.told c.args.shelf.now) (g.F.Shelf.told c.check_reply.new.shelf) Check asks c.check_reply.ensures.turn
+
+-- ---- tables
 
 pub returns-in-Some-Tables-clause-due : goal.returns-in-Some-Tables-clause-due
 returns-in-Some-Tables-clause-due g c =
-    let asks : IsTables c.args.words.now c.in-Some-Tables.lamp = search rules in
-    tables_told c.args.words.now c.in-Some-Tables.lamp (g.F.Shelf.left c.args.shelf.now) c.tables_reply.result asks c.tables_reply.ensures
-
-pub returns-in-Some-Tables-clause-tables : goal.returns-in-Some-Tables-clause-tables
-returns-in-Some-Tables-clause-tables g c = λ lamp asked.
-    let asks : IsTables c.args.words.now c.in-Some-Tables.lamp = search rules in
-    let P : Lamp → Type 0 = λ x. IfOk c.tables_reply.result (λ r. IsDueForTables x (status_number r.status) (string_bytes r.text)) in
-    ((λ name. refl), refl, subst P (one_lamp c.args.words.now c.in-Some-Tables.lamp lamp asks asked) c.tables_reply.ensures)
+    let asks : Asks c.args.words.now (Tables c.in-Some-Tables.lamp c.in-Some-Tables.rate) = search rules in
+    tables_replies c.args.words.now (g.F.Shelf.told c.args.shelf.now) c.in-Some-Tables.lamp c.in-Some-Tables.rate c.tables_reply.result asks c.tables_reply.ensures

@@ -1,7 +1,8 @@
 use Rattle.std.proofs.Common.{rules, ◌≡◌, List, length, ◌++◌, ap, ◌∙◌, string_bytes}
 use Rattle.flk_cert.specs.declared.certificate.CertRow.{CertRow}
 use Rattle.flk_cert.specs.Gain.{input_of, rounding_of}
-use Rattle.flk_top.specs.Tables.{section_line, gain_line, IsCertified}
+use Rattle.flk_top.specs.Certified.{IsCertified}
+use Rattle.flk_top.specs.Tables.{section_line, gain_line}
 use Rattle.flk_top.proofs.tables.section_lines.Goals as goal
 
 pub returns-clause-some : goal.returns-clause-some

@@ -1,0 +1,274 @@
+-- From a composed reply, and from its writing, to what is promised of a run.
+use Rattle.std.proofs.Common.{◌≡◌, ◌≢◌, ℕ, zero, suc, ◌+◌, ◌<◌, ◌≤◌, List, [], ◌∷◌, ◌++◌, length, take, map, Option, Some, None, Result, Ok, Err, IfOk, refl, sym, ap, ◌∙◌, subst, string_bytes, arith, inl, inr}
+use Rattle.std.specs.Prelude.{slice_index_or, Contains, if◌then◌else◌}
+use Rattle.std.specs.List.{AllZip}
+use Rattle.std.specs.Str.{bytes_eq}
+use Rattle.std.specs.Io.KnownBytes.{Appends}
+use Rattle.std.proofs.KnownBytes.{Appends-nil}
+use Rattle.std.proofs.lemmas.Bool.{cases_Bool}
+use Rattle.flk_io.specs.Causes.{Rose, AddsFront, HasCause}
+use Rattle.flk_io.specs.Told.{ShelfTold, SinkTold, OnlyReads}
+use Rattle.flk_num.specs.declared.lamp.Lamp.{Lamp}
+use Rattle.flk_num.specs.declared.rate.Rate.{Rate}
+use Rattle.flk_top.specs.Answer.{IsDueFor, IsDue, usage, asked, ComesToTurn}
+use Rattle.flk_top.specs.Command.{Asks, IsNoCommand, inputs_of, IsInput, IsOutput}
+use Rattle.flk_top.specs.Faults.{read_line, usage_line}
+use Rattle.flk_top.specs.Headline.{MeasuredRecording, AreAccepted, TellsLevels}
+use Rattle.flk_top.specs.Outcome.{Piece, Outcome, appended_under, AreFirstPieces}
+use Rattle.flk_top.specs.Replies.{outcome_of, IsExplained, IsHonest, ReadsOnly, AwaitsTurns}
+use Rattle.flk_top.specs.Run.{IsDone, IsCut, read, write, read_and_write, memory, IsCounted, IsConfined, DoneIsDue, CutIsDue, ReadsInTurn}
+use Rattle.flk_top.specs.Status.{status_number}
+use Rattle.flk_top.specs.Tables.{IsDueForTables}
+use Rattle.flk_top.specs.Told.{Files, MayHold, Agrees, TellsInputs, AreAppended, AreBegun}
+use Rattle.flk_top.specs.declared.command.Command.{Command}
+use Rattle.flk_top.specs.declared.command.Command.TheVariants.{Tables}
+use Rattle.flk_top.specs.declared.reply.Reply.{Reply}
+use Rattle.flk_top.specs.declared.reply.Status.{Status}
+use Rattle.flk_top.specs.declared.reply.Status.TheVariants.{Done, Refused, ReadFailed}
+use Rattle.flk_top.proofs.AgreeingFiles.{files_with, files_agree, files_have, same_contents, contains_first}
+use Rattle.flk_top.proofs.AnswerExists.{some_answer}
+use Rattle.flk_top.proofs.Headline.{tells_levels}
+use Rattle.flk_top.proofs.OneCommand.{one_command, inputs_apart}
+use Rattle.flk_top.proofs.Outcomes.{is_refusal}
+
+-- ---- only the bytes of the inputs decide
+
+pub inputs_decided : (words : List (List ℕ)) (files others : Files) → ((name : List ℕ) → IsInput words name → others name ≡ files name) → (o : Outcome) → IsDue words files o → IsDue words others o
+inputs_decided words files others same o (usage none out) = usage none out
+inputs_decided words files others same o (asked q asks due) =
+    let P : List (List ℕ) → Type 0 = λ contents. IsDueFor q contents o in
+    asked q asks (subst P (sym (same_contents files others (inputs_of q words) (λ name there. same name (q, asks, there)))) due)
+
+-- ---- a reply is due
+
+-- some files agree with what is told, and the reply is due for them
+abbrev pub IsDueSomewhere : List (List ℕ) → ShelfTold → Outcome → Type 0
+IsDueSomewhere words told o = (files : Files) × Agrees told files × IsDue words files o
+
+pub explained_due : (words : List (List ℕ)) (told : ShelfTold) (q : Command) (r : Reply) → Asks words q → IsExplained q (inputs_of q words) told r
+    → r.status ≢ ReadFailed → IsDueSomewhere words told (outcome_of r)
+explained_due words told q r asks explained fine =
+    let out = explained fine in
+    let names = inputs_of q words in
+    let P : List (List ℕ) → Type 0 = λ contents. IsDueFor q contents (outcome_of r) in (
+      files_with told.left names out.0,
+      files_agree told.left names out.0 out.1,
+      asked q asks (subst P (sym (files_have told.left names out.0 (inputs_apart words q asks) out.1)) out.2),
+    )
+
+pub usage_due : (words : List (List ℕ)) (told : ShelfTold) (r : Reply) → IsNoCommand words → r.status ≡ Refused → string_bytes r.text ≡ usage_line → IsDueSomewhere words told (outcome_of r)
+usage_due words told r none status text = (files_with told.left [] [], files_agree told.left [] [] tt, usage none (is_refusal r usage_line status text))
+
+-- some outcome is due for some files that agree
+pub some_due : (words : List (List ℕ)) (told : ShelfTold) → (o : Outcome) × IsDueSomewhere words told o
+some_due words told =
+    let files = files_with told.left [] [] in
+    let due = some_answer words files in
+    (due.0, (files, files_agree told.left [] [] tt, due.1))
+
+-- ---- nothing was appended
+
+under_none : (name : List ℕ) (piece : Piece) → appended_under name (record { name = piece.name; bytes = take 0 piece.bytes } ∷ []) ≡ []
+under_none name piece = elim (cases_Bool (bytes_eq piece.name name)) [ inl here ↦ rw here refl | inr other ↦ rw other refl ]
+
+nothing_appended : (old new : ShelfTold) (name : List ℕ) → OnlyReads old new → Appends (old.added name) (new.added name) []
+nothing_appended old new name reads =
+    subst (λ (x : Option (List ℕ)). Appends (old.added name) x []) (sym (reads.nothing_added name)) (Appends-nil (old.added name))
+
+pub none_begun : (old new : ShelfTold) (pieces : List Piece) → OnlyReads old new → AreBegun old.added new.added pieces
+none_begun old new [] reads = ([], refl, λ name. nothing_appended old new name reads)
+none_begun old new (piece ∷ pieces) reads = (
+  record { name = piece.name; bytes = take 0 piece.bytes } ∷ [],
+  inl (0, omega arith, refl),
+  λ name. subst (λ (bytes : List ℕ). Appends (old.added name) (new.added name) bytes) (sym (under_none name piece)) (nothing_appended old new name reads),
+)
+
+pub none_appended : (old new : ShelfTold) → OnlyReads old new → AreAppended old.added new.added []
+none_appended old new reads = λ name. nothing_appended old new name reads
+
+-- ---- the status
+
+pub known_status : (s : Status) (n : ℕ) → n ≡ status_number s → n ≤ 6
+known_status Done n is = omega (arith, is)
+known_status Refused n is = omega (arith, is)
+known_status ReadFailed n is = omega (arith, is)
+
+-- only a failed read is told by 4, and nothing composed by more
+not_failed : (s : Status) (n : ℕ) → n ≡ status_number s → n < 4 → s ≢ ReadFailed
+not_failed Done n is less same = cc
+not_failed Refused n is less same = cc
+not_failed ReadFailed n is less same = omega (arith, is, less)
+
+read_failed : (s : Status) (n : ℕ) → n ≡ status_number s → 4 ≤ n → s ≡ ReadFailed
+read_failed Done n is four = absurd (omega (arith, is, four))
+read_failed Refused n is four = absurd (omega (arith, is, four))
+read_failed ReadFailed n is four = refl
+
+failed_number : (s : Status) (n : ℕ) → n ≡ status_number s → s ≡ ReadFailed → n ≡ 4
+failed_number s n is same = is ∙ ap status_number same
+
+-- ---- the text was written whole
+
+pub done_due : (words : List (List ℕ)) (n : ℕ) (old new : ShelfTold) (was is : SinkTold) (r : Reply) → n ≡ status_number r.status → OnlyReads old new
+    → (r.status ≢ ReadFailed → IsDueSomewhere words old (outcome_of r)) → Appends was.written is.written (string_bytes r.text) → DoneIsDue words n old new was is
+done_due words n old new was is r number reads due appends = λ less.
+    let found = due (not_failed r.status n number less) in
+    (found.0, outcome_of r, found.1, found.2, record { status = number; text = appends; pieces = none_appended old new reads })
+
+pub done_cut : (words : List (List ℕ)) (n : ℕ) (old new : ShelfTold) (was is : SinkTold) (r : Reply) → n ≡ status_number r.status → OnlyReads old new → IsHonest old new r
+    → (r.status ≡ ReadFailed → (name : List ℕ) × IsInput words name) → Appends was.written is.written (string_bytes r.text) → CutIsDue words n old new was is
+done_cut words n old new was is r number reads honest input appends = λ four.
+    let failed = read_failed r.status n number four in
+    let there = input failed in
+    let due = some_due words old in
+    let P : List ℕ → Type 0 = λ text. Appends was.written is.written text in (
+      due.1.0,
+      due.0,
+      due.1.1,
+      due.1.2,
+      read there.0 there.1 (failed_number r.status n number failed) (honest.rose failed) (subst P (honest.text failed) appends) (none_begun old new due.0.pieces reads),
+    )
+
+pub done_counted : (n : ℕ) (old new : ShelfTold) (was is : SinkTold) (r : Reply) → n ≡ status_number r.status → OnlyReads old new → IsHonest old new r → is.faults ≡ was.faults
+    → IsCounted n old new was is
+done_counted n old new was is r number reads honest kept = record {
+  reads_later = reads.count.later;
+  appends_later = omega (arith, reads.append_faults);
+  writes_later = omega (arith, kept);
+  reads_stay = λ less. honest.quiet (not_failed r.status n number less);
+  appends_stay = λ less. reads.append_faults;
+  writes_stay = λ less. kept;
+  read_failed = λ rose. four_at r.status number honest.quiet rose;
+  append_failed = λ rose. absurd (omega (arith, rose, reads.append_faults));
+  write_failed = λ rose. absurd (omega (arith, rose, kept));
+}
+  where
+    four_at : (s : Status) → n ≡ status_number s → (s ≢ ReadFailed → new.read_faults ≡ old.read_faults) → old.read_faults < new.read_faults → 4 ≤ n
+    four_at Done is quiet rose = absurd (omega (arith, rose, quiet (λ same. cc)))
+    four_at Refused is quiet rose = absurd (omega (arith, rose, quiet (λ same. cc)))
+    four_at ReadFailed is quiet rose = omega (arith, is)
+
+-- ---- the write failed
+
+pub written_cut : (words : List (List ℕ)) (old new : ShelfTold) (was is : SinkTold) (r : Reply) → OnlyReads old new → IsHonest old new r
+    → (r.status ≢ ReadFailed → IsDueSomewhere words old (outcome_of r)) → (r.status ≡ ReadFailed → (name : List ℕ) × IsInput words name)
+    → Rose was.faults is.faults → AddsFront was.written is.written (string_bytes r.text) → CutIsDue words 5 old new was is
+written_cut words old new was is r reads honest due input rose front = λ four. by_status r.status refl
+  where
+    whole : r.status ≢ ReadFailed → (files : Files) × (o : Outcome) × Agrees old files × IsDue words files o × IsCut words o 5 old new was is
+    whole fine =
+        let found = due fine in
+        (found.0, outcome_of r, found.1, found.2, write refl rose front (none_appended old new reads))
+
+    by_status : (s : Status) → r.status ≡ s → (files : Files) × (o : Outcome) × Agrees old files × IsDue words files o × IsCut words o 5 old new was is
+    by_status Done same = whole (λ failed. cc)
+    by_status Refused same = whole (λ failed. cc)
+    by_status ReadFailed same =
+        let there = input same in
+        let some = some_due words old in
+        let P : List ℕ → Type 0 = λ text. AddsFront was.written is.written text in (
+          some.1.0,
+          some.0,
+          some.1.1,
+          some.1.2,
+          read_and_write there.0 there.1 refl (honest.rose same) rose (subst P (honest.text same) front) (none_begun old new some.0.pieces reads),
+        )
+
+pub written_counted : (old new : ShelfTold) (was is : SinkTold) → OnlyReads old new → was.faults ≤ is.faults → IsCounted 5 old new was is
+written_counted old new was is reads later = record {
+  reads_later = reads.count.later;
+  appends_later = omega (arith, reads.append_faults);
+  writes_later = later;
+  reads_stay = λ less. absurd (omega (arith, less));
+  appends_stay = λ less. reads.append_faults;
+  writes_stay = λ less. absurd (omega (arith, less));
+  read_failed = λ rose. omega arith;
+  append_failed = λ rose. refl;
+  write_failed = λ rose. refl;
+}
+
+-- ---- memory was short
+
+pub memory_cut : (words : List (List ℕ)) (old new : ShelfTold) (was : SinkTold) → OnlyReads old new → CutIsDue words 6 old new was was
+memory_cut words old new was reads = λ four.
+    let due = some_due words old in
+    (due.1.0, due.0, due.1.1, due.1.2, memory refl refl (none_begun old new due.0.pieces reads))
+
+pub memory_counted : (old new : ShelfTold) (was : SinkTold) → OnlyReads old new → IsCounted 6 old new was was
+memory_counted old new was reads = record {
+  reads_later = reads.count.later;
+  appends_later = omega (arith, reads.append_faults);
+  writes_later = omega arith;
+  reads_stay = λ less. absurd (omega (arith, less));
+  appends_stay = λ less. reads.append_faults;
+  writes_stay = λ less. refl;
+  read_failed = λ rose. omega arith;
+  append_failed = λ rose. absurd (omega (arith, rose, reads.append_faults));
+  write_failed = λ rose. absurd (omega (arith, rose));
+}
+
+-- ---- the levels of accepted files
+
+pub done_levels : (words : List (List ℕ)) (n : ℕ) (old new : ShelfTold) (was is : SinkTold) → DoneIsDue words n old new was is
+    → n < 4 → (files : Files) → TellsInputs words old files → (m : MeasuredRecording) → AreAccepted words files m
+    → (text : List ℕ) × TellsLevels m n text × Appends was.written is.written text
+done_levels words n old new was is done less files tells m accepted =
+    let out = done less in
+    let same = inputs_decided words out.0 files (λ name input. sym (out.2 name (files name) (tells name input))) out.1 out.3 in
+    let told = tells_levels words files m out.1 accepted same in
+    let P : ℕ → Type 0 = λ s. TellsLevels m s out.1.text in
+    (out.1.text, subst P (sym out.4.status) told, out.4.text)
+
+-- ---- the names
+
+pub confined_same : (words : List (List ℕ)) (told : ShelfTold) → IsConfined words told told
+confined_same words told = record { left = λ name never. refl; added = λ name never. refl; reads = λ never. refl; appends = λ never. refl }
+
+pub confined_reads : (words : List (List ℕ)) (old new : ShelfTold) (q : Command) (first : List ℕ) (names : List (List ℕ)) → Asks words q → inputs_of q words ≡ first ∷ names
+    → OnlyReads old new → ReadsOnly (inputs_of q words) old new → IsConfined words old new
+confined_reads words old new q first names asks some reads only = record {
+  left = λ name never. only name (λ there. never (q, asks, there));
+  added = λ name never. reads.nothing_added name;
+  reads = λ never. absurd (never first (q, asks, subst (λ (ns : List (List ℕ)). Contains ns first) (sym some) (contains_first names first)));
+  appends = λ never. reads.append_faults;
+}
+
+pub turns_same : (words : List (List ℕ)) (told : ShelfTold) → ReadsInTurn words told told
+turns_same words told = λ files tells q asks i less never. refl
+
+told_names : (old : ShelfTold) (files : Files) (names : List (List ℕ)) → ((name : List ℕ) → Contains names name → old.left name ≡ Some (files name)) → map old.left names ≡ map Some (map files names)
+told_names old files [] tells = refl
+told_names old files (n ∷ names) tells =
+    let here = tells n (contains_first names n) in
+    let rest = told_names old files names (λ name there. tells name (suc there.0, omega (arith, there.1), there.2)) in
+    rw (here, rest) refl
+
+pub turns_await : (words : List (List ℕ)) (old new : ShelfTold) (q : Command) → Asks words q → AwaitsTurns q (inputs_of q words) old new → ReadsInTurn words old new
+turns_await words old new q asks awaits = λ files tells p also i less never.
+    let same = one_command words q p asks also in
+    let P : Command → Type 0 = λ x. AwaitsTurns x (inputs_of x words) old new in
+    (subst P same awaits) (map files (inputs_of p words)) (told_names old files (inputs_of p words) (λ name there. tells name (p, also, there))) i less never
+
+-- ---- a failed read is of an input
+
+pub input_read : {E : Type 0} (words : List (List ℕ)) (q : Command) (first : List ℕ) (names : List (List ℕ)) (r : Result Reply E) → Asks words q → inputs_of q words ≡ first ∷ names
+    → IfOk r (λ x. x.status ≡ ReadFailed → (name : List ℕ) × IsInput words name)
+input_read words q first names (Ok x) asks some = λ failed. (first, (q, asks, subst (λ (ns : List (List ℕ)). Contains ns first) (sym some) (contains_first names first)))
+input_read words q first names (Err e) asks some = tt
+
+pub explained_all : {E : Type 0} (words : List (List ℕ)) (told : ShelfTold) (q : Command) (r : Result Reply E) → Asks words q → IfOk r (IsExplained q (inputs_of q words) told)
+    → IfOk r (λ x. x.status ≢ ReadFailed → IsDueSomewhere words told (outcome_of x))
+explained_all words told q (Ok x) asks h = λ fine. explained_due words told q x asks h fine
+explained_all words told q (Err e) asks h = tt
+
+-- ---- the commands that read nothing
+
+pub usage_replies : {E : Type 0} (words : List (List ℕ)) (told : ShelfTold) (r : Result Reply E) → IsNoCommand words
+    → IfOk r (λ x. (x.status ≡ Refused) × (string_bytes x.text ≡ usage_line)) → IfOk r (λ x. x.status ≢ ReadFailed → IsDueSomewhere words told (outcome_of x))
+usage_replies words told (Ok x) none h = λ fine. usage_due words told x none h.0 h.1
+usage_replies words told (Err e) none h = tt
+
+pub tables_replies : {E : Type 0} (words : List (List ℕ)) (told : ShelfTold) (lamp : Lamp) (rate : Rate) (r : Result Reply E) → Asks words (Tables lamp rate)
+    → IfOk r (λ x. IsDueForTables lamp rate (outcome_of x)) → IfOk r (λ x. x.status ≢ ReadFailed → IsDueSomewhere words told (outcome_of x))
+tables_replies words told lamp rate (Ok x) asks h = λ fine. explained_due words told (Tables lamp rate) x asks (λ again. ([], tt, h)) fine
+tables_replies words told lamp rate (Err e) asks h = tt
