@@ -1,10 +1,14 @@
 //! The program: the words of the command line, files and standard output, handed to the top call.
 #![tactic(auto)]
 
-use flk_io::{FileShelf, StdSink, Words};
+ghost use Rattle.std.specs.Process.{exit_status};
+ghost use Rattle.flk_top.specs.Run.{IsRun};
+
+use flk_io::{FileShelf, Shelf, Sink, StdSink, Words};
 use flk_top::{Gate, OUT_OF_MEMORY, run};
 use std::alloc::Global;
 use std::process::ExitCode;
+use std::thread::Threads;
 use std::{env, io};
 
 /// A gate at which nothing is done.
@@ -25,6 +29,22 @@ fn words_of(rt: &HostRuntime, alloc: Global) -> io::Result<Words> {
     Ok(words)
 }
 
+// Runs the command that the words name, and ends with the status that the top call answers. All that is promised of a run holds of the number
+// with which the program ends.
+fn exit_code_of<R: Threads + Sync, F: Shelf, K: Sink, G: Gate + Sync>(
+    rt: &R,
+    alloc: Global,
+    words: &Words,
+    shelf: &mut F,
+    sink: &mut K,
+    gate: &G,
+) -> ExitCode
+    ensures { IsRun words.now (exit_status result) (F.told shelf.old) (F.told shelf.new) (K.told sink.old) (K.told sink.new) }
+{
+    let status = run(rt, alloc, words, shelf, sink, gate);
+    ExitCode::from(status)
+}
+
 fn main(rt: HostRuntime) -> ExitCode {
     let alloc = rt.alloc();
     let words = match words_of(&rt, alloc) {
@@ -36,5 +56,5 @@ fn main(rt: HostRuntime) -> ExitCode {
     };
     let mut shelf = FileShelf::new(&rt, alloc);
     let mut sink = StdSink::new(&rt);
-    ExitCode::from(run(&rt, alloc, &words, &mut shelf, &mut sink, &Open))
+    exit_code_of(&rt, alloc, &words, &mut shelf, &mut sink, &Open)
 }
