@@ -1,13 +1,15 @@
 #!/usr/bin/env python3
-"""Times `Front::push` of the crate flk_front and `Cascade::step` of flk_section, each beside a plain Rust program of the same integer
-arithmetic.
+"""Times `Front::push` of the crate flk_front, `Cascade::step` of flk_section, and `Smooth::step` and `Levels::end` of flk_stat, each beside a
+plain Rust program of the same integer arithmetic.
 
-    bench/flickermeter.py [SAMPLES] [RUNS]
+    bench/flickermeter.py [SAMPLES] [RUNS] [NAME..]
 
 Builds a small program over each crate in a temporary folder by `rt run`, which proves it. The programs take SAMPLES pseudo-random samples
 (10,000,000 where nothing is said) and print a checksum of all answers: the front takes voltages with a mean square of about 1, as intervals
-of about 5e-11 of nominal, and the cascade of the lamp 230/50 takes points of up to 4 times nominal squared. Runs both programs RUNS times
-(5) in turn, compares what they print, and prints for each the least processor time, and the ratio."""
+of about 5e-11 of nominal, the cascade of the lamp 230/50 takes points of up to 4 times nominal squared, the smoothing at 2400 samples a second
+points of up to a half, and the severity whole intervals of 1,440,000 levels of up to 1: as many as the samples make, at least one. Runs both
+programs RUNS times (5) in turn, compares what they print, and prints for each the least processor time, and the ratio. With names (`front`,
+`cascade`, `smooth`, `severity`) only those."""
 import sys
 import tempfile
 
@@ -90,10 +92,77 @@ fn main(rt: HostRuntime) -> io::Result<()> {
 }
 """
 
-# The crate that is timed, the program over it with the crates that it uses, and the plain program.
+SMOOTH = """//! Takes pseudo-random points through the smoothing, and prints a checksum of all levels.
+#![tactic(auto)]
+
+use flk_front::Point;
+use flk_stat::Smooth;
+use std::io;
+
+fn step(smooth: &mut Smooth, state: u32) -> u64 {
+    let v = smooth.step(Point { mid: (i128::from(state) - 2_147_483_648) * 65_536, radius: i128::from(state >> 22) });
+    ((v.lo.unsigned_abs() ^ v.hi.unsigned_abs()) & u128::from(u64::MAX)) as u64
+}
+
+fn main(rt: HostRuntime) -> io::Result<()> {
+    let mut smooth = Smooth::new();
+    let mut state: u32 = 1;
+    let mut sum: u64 = 0;
+    for _ in 0..%du32 {
+        state = state.wrapping_mul(1_664_525).wrapping_add(1_013_904_223);
+        sum = sum.wrapping_mul(31).wrapping_add(step(&mut smooth, state));
+    }
+    println!(rt; "{sum}")?;
+    Ok(())
+}
+"""
+
+SEVERITY = """//! Ends intervals of pseudo-random levels, and prints a checksum of all severities.
+#![tactic(auto)]
+
+use flk_num::Interval;
+use flk_stat::Levels;
+use std::io;
+
+fn add(levels: &mut Levels, state: u32) {
+    if 0 < levels.room() {
+        let lo = i128::from(state) * 65_536;
+        levels.add(Interval { lo, hi: lo + i128::from(state >> 20) });
+    }
+}
+
+fn end(levels: &mut Levels) -> u64 {
+    if 0 < levels.room() {
+        return 0;
+    }
+    let v = levels.end();
+    (v.lo + v.hi) as u64
+}
+
+fn main(rt: HostRuntime) -> io::Result<()> {
+    let Ok(mut levels) = Levels::new(rt.alloc(), 1_440_000) else {
+        return Ok(());
+    };
+    let mut state: u32 = 1;
+    let mut sum: u64 = 0;
+    for _ in 0..%du32 {
+        for _ in 0..1_440_000u32 {
+            state = state.wrapping_mul(1_664_525).wrapping_add(1_013_904_223);
+            add(&mut levels, state);
+        }
+        sum = sum.wrapping_mul(31).wrapping_add(end(&mut levels));
+    }
+    println!(rt; "{sum}")?;
+    Ok(())
+}
+"""
+
+# The crate that is timed, the program over it with the crates that it uses, the plain program, and the samples that it takes at a time.
 TIMED = [
-    ("flk_front", FRONT, ["flk_num", "flk_front"], "front"),
-    ("flk_section", CASCADE, ["flk_num", "flk_cert", "flk_design", "flk_front", "flk_section"], "cascade"),
+    ("flk_front", FRONT, ["flk_num", "flk_front"], "front", 1),
+    ("flk_section", CASCADE, ["flk_num", "flk_cert", "flk_design", "flk_front", "flk_section"], "cascade", 1),
+    ("flk_stat", SMOOTH, ["flk_front", "flk_stat"], "smooth", 1),
+    ("flk_stat", SEVERITY, ["flk_num", "flk_stat"], "severity", 1_440_000),
 ]
 
 
@@ -116,11 +185,15 @@ def main():
     samples = int(sys.argv[1]) if len(sys.argv) > 1 else 10_000_000
     runs = int(sys.argv[2]) if len(sys.argv) > 2 else 5
     print("%d samples, best of %d runs" % (samples, runs))
-    for crate, text, uses, plain in TIMED:
+    for crate, text, uses, plain, at_a_time in TIMED:
+        if sys.argv[3:] and plain not in sys.argv[3:]:
+            continue
+        turns = max(1, samples // at_a_time)
+        print("%s, %d samples:" % (plain, turns * at_a_time))
         with tempfile.TemporaryDirectory() as folder:
-            program = programs.over_crates(folder, "bench_" + plain, uses, {"src/main.rt": text % samples})
-            both = {crate: [program], "plain Rust": [programs.plain(folder, plain), str(samples)]}
-            compared(crate, both, samples, runs)
+            program = programs.over_crates(folder, "bench_" + plain, uses, {"src/main.rt": text % turns})
+            both = {crate: [program], "plain Rust": [programs.plain(folder, plain), str(turns)]}
+            compared(crate, both, turns * at_a_time, runs)
 
 
 if __name__ == "__main__":
