@@ -4,3 +4,4 @@ pub mod ScaledLemmas
 pub mod RootLemmas
 pub mod QuotientLemmas
 pub mod IntervalLemmas
+pub mod StopLemmas

@@ -3,3 +3,4 @@ pub mod Values
 pub mod Square
 pub mod Lamp
 pub mod Rate
+pub mod Stop

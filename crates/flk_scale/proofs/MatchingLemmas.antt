@@ -10,7 +10,7 @@ use Rattle.flk_num.specs.declared.lamp.Lamp.{Lamp}
 use Rattle.flk_num.specs.declared.lamp.Lamp.TheVariants.{L230, L120}
 use Rattle.flk_cfg.specs.declared.config.Analog.{Analog}
 use Rattle.flk_cfg.specs.declared.config.Config.{Config}
-use Rattle.flk_cfg.proofs.SetCases.{is_whole}
+use Rattle.flk_field.proofs.SetCases.{is_whole}
 use Rattle.flk_cfg.proofs.Whole.{no_analog}
 use Rattle.flk_scale.specs.Voltage.{IsVoltageUnit}
 use Rattle.flk_scale.specs.Scale.{HasSmallScale}
