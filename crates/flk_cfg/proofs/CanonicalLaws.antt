@@ -11,7 +11,7 @@ use Rattle.flk_text.specs.Numeral.{Numeral, IsNumeral}
 use Rattle.flk_text.specs.Decimal.{IsInSet}
 use Rattle.flk_text.specs.PlainText.{plain}
 use Rattle.flk_text.proofs.PlainTextLemmas.{plain_text}
-use Rattle.flk_cfg.specs.Values.{IsFormWord, IsWholeFrom, IsRate}
+use Rattle.flk_field.specs.Values.{IsFormWord, IsWholeFrom, IsRate}
 use Rattle.flk_cfg.specs.Rows.{IsTitle, IsCounts, IsAnalog, IsDigital, IsLineFrequency, IsOneRate, IsSampling, IsStamp, IsFileType, IsMultiplier}
 use Rattle.flk_cfg.specs.Places.{HasLine}
 use Rattle.flk_cfg.specs.File.{AreAnalogs, AreDigitals, AreSettings, IsConfig}
@@ -20,8 +20,8 @@ use Rattle.flk_cfg.specs.Canonical.{form_text, rate_text, title_fields, counts_f
 use Rattle.flk_cfg.specs.declared.config.Analog.{Analog}
 use Rattle.flk_cfg.specs.declared.config.Digital.{Digital}
 use Rattle.flk_cfg.specs.declared.config.Config.{Config}
-use Rattle.flk_cfg.specs.declared.config.Form.{Form}
-use Rattle.flk_cfg.specs.declared.config.Form.TheVariants.{Ascii, Binary}
+use Rattle.flk_field.specs.declared.form.Form.{Form}
+use Rattle.flk_field.specs.declared.form.Form.TheVariants.{Ascii, Binary}
 use Rattle.flk_cfg.proofs.WrittenLines.{IsCell, AreCells, AreLines, AreLines-append, has_line, has_last_line, no_tail}
 use Rattle.flk_cfg.proofs.WrittenFields.{IsFree, free_cell, free-append, free_plain, free_decimal, name_cell, name_is, bit_small, whole_is, counted_is, side_is, side_free}
 use Rattle.flk_cfg.proofs.WrittenStamps.{stamp_is, date_free, time_free}

@@ -5,7 +5,8 @@ use Rattle.flk_text.specs.Lines.{line_of, last_line_of}
 use Rattle.flk_text.specs.Fields.{fields}
 use Rattle.flk_text.specs.Tail.{IsTail}
 use Rattle.flk_text.proofs.TextCases.{tail_cases}
-use Rattle.flk_cfg.specs.Table.{Set, LineFault, IsGoodLine, row, title_row, analog_row, digital_row, last_row}
+use Rattle.flk_field.specs.Sets.{Set, LineFault, IsGoodLine}
+use Rattle.flk_cfg.specs.Table.{ChannelCounts, row, title_row, analog_row, digital_row, last_row}
 use Rattle.flk_cfg.specs.Rows.{TitleFault, IsCounts, CountsFault, IsLineFrequency}
 use Rattle.flk_cfg.specs.Places.{after_lines, tail_at, HasLine, HasLastLine, FaultAt, LastFaultAt}
 use Rattle.flk_cfg.specs.File.{AreAnalogs, AreDigitals, AreSettings, IsConfig, IsGoodAt, FirstFaultAt, FaultFromLast, FaultFromThird, FaultFromSecond, IsFirstFault}
@@ -14,8 +15,8 @@ use Rattle.flk_cfg.specs.Reading.{AreGood}
 use Rattle.flk_cfg.specs.declared.config.Analog.{Analog}
 use Rattle.flk_cfg.specs.declared.config.Digital.{Digital}
 use Rattle.flk_cfg.specs.declared.config.Config.{Config}
-use Rattle.flk_cfg.specs.declared.kind.Kind.{Kind}
-use Rattle.flk_cfg.specs.declared.kind.Kind.TheVariants as kinds
+use Rattle.flk_field.specs.declared.kind.Kind.{Kind}
+use Rattle.flk_field.specs.declared.kind.Kind.TheVariants as kinds
 use Rattle.flk_cfg.proofs.Rows.{row_digital, row_setting}
 use Rattle.flk_cfg.proofs.Steps.{analogs_more, digitals_more}
 use Rattle.flk_cfg.proofs.Whole.{GoodThird, good_none, rows_analog, whole_config}
@@ -57,19 +58,19 @@ last_cases bytes k =
     ]
 
 -- the first lines after the second are good, so many of them, or one has the first fault
-third_cases : (bytes : List ℕ) (na nd n : ℕ) → n ≤ na + nd + 6 → GoodThird bytes na nd n ⊎ ((j : ℕ) × (field : ℕ) × (kind : Kind) × FirstFaultAt bytes na nd j field kind)
-third_cases bytes na nd zero le = inl (good_none bytes na nd)
-third_cases bytes na nd (suc n) le =
-    elim (third_cases bytes na nd n (omega (arith, le))) [
+third_cases : (bytes : List ℕ) (count : ChannelCounts) (n : ℕ) → n ≤ count.analog + count.digital + 6 → GoodThird bytes count n ⊎ ((j : ℕ) × (field : ℕ) × (kind : Kind) × FirstFaultAt bytes count j field kind)
+third_cases bytes count zero le = inl (good_none bytes count)
+third_cases bytes count (suc n) le =
+    elim (third_cases bytes count n (omega (arith, le))) [
       | inr out ↦ inr out
-      | inl so ↦ elim (place_cases bytes (2 + n) (IsGoodLine (row na nd n)) (LineFault (row na nd n)) (line_cases (row na nd n))) [
+      | inl so ↦ elim (place_cases bytes (2 + n) (IsGoodLine (row count n)) (LineFault (row count n)) (line_cases (row count n))) [
         | inr out ↦ inr (n, out.0, out.1, record { within = omega (arith, le); before = so; here = out.2 })
         | inl good ↦ inl (λ i lt.
             elim (cases_lt i n) [
               | inl less ↦ so i less
               | inr more ↦
                   let same : n ≡ i = omega (arith, lt, more) in
-                  subst (IsGoodAt bytes na nd) same good
+                  subst (IsGoodAt bytes count) same good
             ])
       ]
     ]
@@ -93,22 +94,22 @@ digitals_of bytes k (suc n) good =
     (so.0 ++ c.0 ∷ [], omega (arith, so.1, length-append so.0 (c.0 ∷ [])), digitals_more bytes k n so.0 c.0 so.1 so.2 (line.0, line.1, c.1))
 
 -- good lines of the file behind the first n of those after the second, by their rows
-run_of : (bytes : List ℕ) (na nd n m k : ℕ) (rows : ℕ → List Set) → GoodThird bytes na nd (na + nd + 6) → n + m ≤ na + nd + 6 → 2 + n ≡ k → ((i : ℕ) → i < m → row na nd (n + i) ≡ rows i) → AreGood rows bytes k m
-run_of bytes na nd n m k rows good few place same = λ i lt.
+run_of : (bytes : List ℕ) (count : ChannelCounts) (n m k : ℕ) (rows : ℕ → List Set) → GoodThird bytes count (count.analog + count.digital + 6) → n + m ≤ count.analog + count.digital + 6 → 2 + n ≡ k → ((i : ℕ) → i < m → row count (n + i) ≡ rows i) → AreGood rows bytes k m
+run_of bytes count n m k rows good few place same = λ i lt.
     let line = good (n + i) (omega (arith, lt, few)) in
     let at_row : HasLine bytes (2 + (n + i)) (IsGoodLine (rows i)) = (line.0, line.1, subst (λ (r : List Set). IsGoodLine r line.0) (same i lt) line.2) in
     let there : 2 + (n + i) ≡ k + i = omega (arith, place) in
     subst (λ (j : ℕ). HasLine bytes j (IsGoodLine (rows i))) there at_row
 
 -- the configuration of good lines
-config_of : (bytes : List ℕ) (na nd : ℕ) → HasLine bytes 0 (IsGoodLine title_row) → HasLine bytes 1 (λ parts. IsCounts parts na nd) → GoodThird bytes na nd (na + nd + 6)
-    → HasLastLine bytes (2 + na + nd + 6) (IsGoodLine last_row) → IsTail (tail_at bytes (2 + na + nd + 6)) → (c : Config) × IsConfig bytes c
-config_of bytes na nd first counts good final tail =
+config_of : (bytes : List ℕ) (count : ChannelCounts) → HasLine bytes 0 (IsGoodLine title_row) → HasLine bytes 1 (λ parts. IsCounts parts count.analog count.digital) → GoodThird bytes count (count.analog + count.digital + 6)
+    → HasLastLine bytes (2 + count.analog + count.digital + 6) (IsGoodLine last_row) → IsTail (tail_at bytes (2 + count.analog + count.digital + 6)) → (c : Config) × IsConfig bytes c
+config_of bytes count first counts good final tail =
     let title = title_of first.0 first.2 in
-    let analog = analogs_of bytes 2 na (run_of bytes na nd 0 na 2 (λ i. analog_row (i + 1)) good (omega arith) refl (rows_analog na nd)) in
-    let digital = digitals_of bytes (2 + na) nd (run_of bytes na nd na nd (2 + na) (λ i. digital_row (i + 1)) good (omega arith) refl (row_digital na nd)) in
-    let k = 2 + na + nd in
-    let settings = run_of bytes na nd (na + nd) 6 k setting_at good (omega arith) (omega arith) (λ i lt. row_setting na nd i) in
+    let analog = analogs_of bytes 2 count.analog (run_of bytes count 0 count.analog 2 (λ i. analog_row (i + 1)) good (omega arith) refl (rows_analog count)) in
+    let digital = digitals_of bytes (2 + count.analog) count.digital (run_of bytes count count.analog count.digital (2 + count.analog) (λ i. digital_row (i + 1)) good (omega arith) refl (row_digital count)) in
+    let k = 2 + count.analog + count.digital in
+    let settings = run_of bytes count (count.analog + count.digital) 6 k setting_at good (omega arith) (omega arith) (λ i lt. row_setting count i) in
     let line0 = settings 0 (omega arith) in
     let line1 = settings 1 (omega arith) in
     let line2 = settings 2 (omega arith) in
@@ -145,31 +146,31 @@ config_of bytes na nd first counts good final tail =
       last = (final.0, final.1, multiplier.1);
       tail = tail;
     } in
-    (c, whole_config bytes c na nd (first.0, first.1, title.2) counts (analog.1, analog.2) (digital.1, digital.2) lines)
+    (c, whole_config bytes c count (first.0, first.1, title.2) counts (analog.1, analog.2) (digital.1, digital.2) lines)
 
 -- ---- the file, line by line
 
 abbrev HasFault : (List ℕ → (line field : ℕ) → Kind → Type 0) → List ℕ → Type 0
 HasFault fault bytes = (line : ℕ) × (field : ℕ) × (kind : Kind) × fault bytes line field kind
 
-from_last : (bytes : List ℕ) (na nd : ℕ) → HasLine bytes 0 (IsGoodLine title_row) → HasLine bytes 1 (λ parts. IsCounts parts na nd) → GoodThird bytes na nd (na + nd + 6)
-    → ((c : Config) × IsConfig bytes c) ⊎ HasFault (λ b. FaultFromLast b (2 + na + nd + 6)) bytes
-from_last bytes na nd first counts good =
-    let k = 2 + na + nd + 6 in
+from_last : (bytes : List ℕ) (count : ChannelCounts) → HasLine bytes 0 (IsGoodLine title_row) → HasLine bytes 1 (λ parts. IsCounts parts count.analog count.digital) → GoodThird bytes count (count.analog + count.digital + 6)
+    → ((c : Config) × IsConfig bytes c) ⊎ HasFault (λ b. FaultFromLast b (2 + count.analog + count.digital + 6)) bytes
+from_last bytes count first counts good =
+    let k = 2 + count.analog + count.digital + 6 in
     elim (last_cases bytes k) [
       | inr out ↦ inr (k + 1, out.0, out.1, inl (refl, out.2))
       | inl final ↦ elim (tail_cases (tail_at bytes k)) [
-        | inl tail ↦ inl (config_of bytes na nd first counts good final tail)
+        | inl tail ↦ inl (config_of bytes count first counts good final tail)
         | inr other ↦ inr (k + 2, 0, kinds.Length, inr (final, (refl, refl, refl, other)))
       ]
     ]
 
-from_third : (bytes : List ℕ) (na nd : ℕ) → HasLine bytes 0 (IsGoodLine title_row) → HasLine bytes 1 (λ parts. IsCounts parts na nd)
-    → ((c : Config) × IsConfig bytes c) ⊎ HasFault (λ b. FaultFromThird b na nd) bytes
-from_third bytes na nd first counts =
-    elim (third_cases bytes na nd (na + nd + 6) (omega arith)) [
+from_third : (bytes : List ℕ) (count : ChannelCounts) → HasLine bytes 0 (IsGoodLine title_row) → HasLine bytes 1 (λ parts. IsCounts parts count.analog count.digital)
+    → ((c : Config) × IsConfig bytes c) ⊎ HasFault (λ b. FaultFromThird b count) bytes
+from_third bytes count first counts =
+    elim (third_cases bytes count (count.analog + count.digital + 6) (omega arith)) [
       | inr out ↦ inr (out.0 + 3, out.1, out.2, inl (out.0, refl, out.3))
-      | inl good ↦ elim (from_last bytes na nd first counts good) [
+      | inl good ↦ elim (from_last bytes count first counts good) [
         | inl is ↦ inl is
         | inr out ↦ inr (out.0, out.1, out.2, inr (good, out.3))
       ]
@@ -183,12 +184,11 @@ from_second bytes first =
     elim (place_cases bytes 1 HasCounts CountsFault counts_cases) [
       | inr out ↦ inr (2, out.0, out.1, inl (refl, out.2))
       | inl line ↦
-          let na = line.2.0 in
-          let nd = line.2.1 in
+          let count : ChannelCounts = record { analog = line.2.0; digital = line.2.1 } in
           let counts : HasLine bytes 1 (λ parts. IsCounts parts line.2.0 line.2.1) = (line.0, line.1, line.2.2) in
-          elim (from_third bytes na nd first counts) [
+          elim (from_third bytes count first counts) [
             | inl is ↦ inl is
-            | inr out ↦ inr (out.0, out.1, out.2, inr (na, nd, counts, out.3))
+            | inr out ↦ inr (out.0, out.1, out.2, inr (count, counts, out.3))
           ]
     ]
 

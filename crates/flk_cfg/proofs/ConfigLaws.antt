@@ -5,8 +5,9 @@ use Rattle.std.proofs.lemmas.List.{ext_get_or}
 use Rattle.flk_num.specs.declared.rate.Rate.{Rate}
 use Rattle.flk_num.specs.declared.rate.Rate.TheVariants.{R2400, R4800}
 use Rattle.flk_text.proofs.NumeralLemmas.{decimal_once}
-use Rattle.flk_cfg.specs.Values.{IsRate}
-use Rattle.flk_cfg.specs.Table.{IsGoodLine, title_row, at}
+use Rattle.flk_field.specs.Values.{IsRate}
+use Rattle.flk_field.specs.Sets.{IsGoodLine, at}
+use Rattle.flk_cfg.specs.Table.{ChannelCounts, title_row}
 use Rattle.flk_cfg.specs.Rows.{IsTitle, IsCounts, IsAnalog, IsDigital, IsLineFrequency, IsSampling, IsStamp, IsFileType, IsMultiplier, TitleFault, CountsFault}
 use Rattle.flk_cfg.specs.Places.{HasLine}
 use Rattle.flk_cfg.specs.File.{IsConfig, AreAnalogs, AreDigitals, AreSettings, IsFirstFault, FaultFromSecond, FaultFromThird, FaultFromLast}
@@ -15,15 +16,15 @@ use Rattle.flk_cfg.specs.declared.config.Analog.{Analog}
 use Rattle.flk_cfg.specs.declared.config.Digital.{Digital}
 use Rattle.flk_cfg.specs.declared.config.Stamp.{Stamp}
 use Rattle.flk_cfg.specs.declared.config.Config.{Config}
-use Rattle.flk_cfg.specs.declared.config.Form.{Form}
+use Rattle.flk_field.specs.declared.form.Form.{Form}
 use Rattle.flk_cfg.specs.declared.settings.Settings.{Settings}
-use Rattle.flk_cfg.specs.declared.kind.Kind.{Kind}
+use Rattle.flk_field.specs.declared.kind.Kind.{Kind}
 use Rattle.flk_text.specs.declared.decimals.DecimalValue.{DecimalValue}
-use Rattle.flk_cfg.proofs.FieldLaws.{whole_from_once, decimal_or_zero_once, side_once, bit_once, form_once}
-use Rattle.flk_cfg.proofs.DateJudges.{date_once, time_once}
+use Rattle.flk_field.proofs.FieldLaws.{whole_from_once, decimal_or_zero_once, side_once, bit_once, form_once}
+use Rattle.flk_field.proofs.DateJudges.{date_once, time_once}
 use Rattle.flk_cfg.proofs.Rows.{good_title, good_multiplier, row_digital, row_setting}
 use Rattle.flk_cfg.proofs.Whole.{no_analog, no_digital, good_analogs, good_digitals, good_settings, good_none, good_run, rows_analog, GoodThird}
-use Rattle.flk_cfg.proofs.LineLaws.{one_line, one_last_line, line_or_fault, title_or_fault, counts_or_fault, third_or_fault, last_or_fault, counts_at_once}
+use Rattle.flk_cfg.proofs.LineLaws.{one_line, one_last_line, line_or_fault, title_or_fault, counts_or_fault, third_or_fault, last_or_fault, counts_at_once, same_counts}
 
 -- ---- a configuration has no fault
 
@@ -34,33 +35,36 @@ lines_of : (bytes : List ℕ) (k : ℕ) (c : Config) → AreSettings bytes k c �
 unfolding settings_of
 lines_of bytes k c s = record { frequency = s.frequency; rates = s.rates; sampling = s.sampling; first = s.first; trigger = s.trigger; file_type = s.file_type }
 
-all_good : (bytes : List ℕ) (c : Config) → IsConfig bytes c → GoodThird bytes (length c.analog) (length c.digital) (length c.analog + length c.digital + 6)
+abbrev channels_of : Config → ChannelCounts
+channels_of c = record { analog = length c.analog; digital = length c.digital }
+
+all_good : (bytes : List ℕ) (c : Config) → IsConfig bytes c → GoodThird bytes (channels_of c) (length c.analog + length c.digital + 6)
 all_good bytes c is =
+    let count = channels_of c in
     let na = length c.analog in
     let nd = length c.digital in
-    let one = good_run bytes na nd 0 na _ (good_none bytes na nd) (rows_analog na nd) (good_analogs bytes 2 na c.analog refl is.analogs) in
-    let two : GoodThird bytes (length c.analog) (length c.digital) (length c.analog) = λ i lt. one i (omega (arith, lt)) in
-    let three = good_run bytes na nd na nd _ two (row_digital na nd) (good_digitals bytes (2 + na) nd c.digital refl is.digitals) in
+    let one = good_run bytes count 0 na _ (good_none bytes count) (rows_analog count) (good_analogs bytes 2 na c.analog refl is.analogs) in
+    let two : GoodThird bytes (channels_of c) (length c.analog) = λ i lt. one i (omega (arith, lt)) in
+    let three = good_run bytes count na nd _ two (row_digital count) (good_digitals bytes (2 + na) nd c.digital refl is.digitals) in
     let same : 2 + length c.analog + length c.digital ≡ 2 + (length c.analog + length c.digital) = omega arith in
     let moved : AreSettingLines bytes (2 + (length c.analog + length c.digital)) (settings_of c) =
     subst (λ (k : ℕ). AreSettingLines bytes k (settings_of c)) same (lines_of bytes (2 + na + nd) c is.settings) in
-    good_run bytes na nd (na + nd) 6 setting_at three (λ i lt. row_setting na nd i) (λ i lt. good_settings bytes (2 + (na + nd)) (settings_of c) i moved lt)
+    good_run bytes count (na + nd) 6 setting_at three (λ i lt. row_setting count i) (λ i lt. good_settings bytes (2 + (na + nd)) (settings_of c) i moved lt)
 
 from_last_none : (bytes : List ℕ) (c : Config) (l p : ℕ) (i : Kind) (k : ℕ) → AreSettings bytes k c → FaultFromLast bytes (k + 6) l p i → ⊥
 from_last_none bytes c l p i k s (inl f) = last_or_fault bytes (k + 6) p i (s.last.0, s.last.1, good_multiplier s.last.0 c.timemult.n s.last.2) f.1
 from_last_none bytes c l p i k s (inr f) = f.1.3 s.tail
 
-from_third_none : (bytes : List ℕ) (c : Config) (l p : ℕ) (i : Kind) → IsConfig bytes c → FaultFromThird bytes (length c.analog) (length c.digital) l p i → ⊥
-from_third_none bytes c l p i is (inl f) = third_or_fault bytes (length c.analog) (length c.digital) f.0 p i (all_good bytes c is f.0 f.2.within) f.2.here
+from_third_none : (bytes : List ℕ) (c : Config) (l p : ℕ) (i : Kind) → IsConfig bytes c → FaultFromThird bytes (channels_of c) l p i → ⊥
+from_third_none bytes c l p i is (inl f) = third_or_fault bytes (channels_of c) f.0 p i (all_good bytes c is f.0 f.2.within) f.2.here
 from_third_none bytes c l p i is (inr f) = from_last_none bytes c l p i (2 + length c.analog + length c.digital) is.settings f.1
 
 from_second_none : (bytes : List ℕ) (c : Config) (l p : ℕ) (i : Kind) → IsConfig bytes c → FaultFromSecond bytes l p i → ⊥
 from_second_none bytes c l p i is (inl f) =
     line_or_fault bytes 1 p i (λ parts. IsCounts parts (length c.analog) (length c.digital)) CountsFault (λ fs. counts_or_fault fs (length c.analog) (length c.digital) p i) is.counts f.1
 from_second_none bytes c l p i is (inr f) =
-    let same = counts_at_once bytes f.0 f.1 (length c.analog) (length c.digital) f.2 is.counts in
-    let one : FaultFromThird bytes (length c.analog) f.1 l p i = subst (λ (n : ℕ). FaultFromThird bytes n f.1 l p i) same.0 f.3 in
-    from_third_none bytes c l p i is (subst (λ (n : ℕ). FaultFromThird bytes (length c.analog) n l p i) same.1 one)
+    let same = counts_at_once bytes f.0.analog f.0.digital (length c.analog) (length c.digital) f.1 is.counts in
+    from_third_none bytes c l p i is (subst (λ (count : ChannelCounts). FaultFromThird bytes count l p i) (same_counts f.0 (channels_of c) same.0 same.1) f.2)
 
 pub config_or_fault : (bytes : List ℕ) (c : Config) (l p : ℕ) (i : Kind) → IsConfig bytes c → IsFirstFault bytes l p i → ⊥
 config_or_fault bytes c l p i is (inl f) =

@@ -1,13 +1,14 @@
 -- A line is good or has one first fault, and bytes have one value or one first fault.
 use Rattle.std.proofs.Common.{◌≡◌, ℕ, ◌+◌, List, [], ◌∷◌, length, sym, ap, subst, ◌∙◌, arith, inl, inr}
 use Rattle.std.proofs.lemmas.Bool.{cases_order}
-use Rattle.flk_cfg.specs.Table.{Set, at, FaultFrom, LineFault, InFrom, IsGoodLine, row, title_row, counts_row, last_row}
+use Rattle.flk_field.specs.Sets.{Set, at, FaultFrom, LineFault, InFrom, IsGoodLine}
+use Rattle.flk_cfg.specs.Table.{ChannelCounts, row, title_row, counts_row, last_row}
 use Rattle.flk_cfg.specs.Rows.{TitleFault, AreCounts, IsCounts, CountsFault}
 use Rattle.flk_cfg.specs.Places.{IsLineAt, IsLastLineAt, HasLine, HasLastLine, FaultAt, LastFaultAt}
 use Rattle.flk_cfg.specs.File.{IsGoodAt, FirstFaultAt, FaultFromLast, FaultFromThird, FaultFromSecond, IsFirstFault}
-use Rattle.flk_cfg.specs.declared.kind.Kind.{Kind}
+use Rattle.flk_field.specs.declared.kind.Kind.{Kind}
 use Rattle.flk_cfg.proofs.Rows.{good_counts}
-use Rattle.flk_cfg.proofs.FieldLaws.{in_or_out, one_kind, whole_from_once, counted_once}
+use Rattle.flk_field.proofs.FieldLaws.{in_or_out, one_kind, whole_from_once, counted_once}
 
 -- ---- rows
 
@@ -94,18 +95,18 @@ one_last_fault bytes k p q i j (inl a) (inr b) = absurd (omega (arith, b.1.there
 one_last_fault bytes k p q i j (inr a) (inl b) = absurd (omega (arith, a.1.there, ap length b.0))
 one_last_fault bytes k p q i j (inr a) (inr b) = one_fault last_row b.0 p q i j (subst (λ (fs : List (List ℕ)). LineFault last_row fs p i) (one_last_line bytes k a.0 b.0 a.1 b.1) a.2) b.2
 
-pub third_or_fault : (bytes : List ℕ) (na nd l p : ℕ) (i : Kind) → IsGoodAt bytes na nd l → FaultAt bytes (2 + l) (LineFault (row na nd l)) p i → ⊥
-third_or_fault bytes na nd l p i good out = line_or_fault bytes (2 + l) p i (IsGoodLine (row na nd l)) (LineFault (row na nd l)) (λ fs. good_or_fault (row na nd l) fs p i) good out
+pub third_or_fault : (bytes : List ℕ) (count : ChannelCounts) (l p : ℕ) (i : Kind) → IsGoodAt bytes count l → FaultAt bytes (2 + l) (LineFault (row count l)) p i → ⊥
+third_or_fault bytes count l p i good out = line_or_fault bytes (2 + l) p i (IsGoodLine (row count l)) (LineFault (row count l)) (λ fs. good_or_fault (row count l) fs p i) good out
 
-one_third_fault : (bytes : List ℕ) (na nd k l p q : ℕ) (i j : Kind) → FirstFaultAt bytes na nd k p i → FirstFaultAt bytes na nd l q j → (k ≡ l) × (p ≡ q) × (i ≡ j)
-one_third_fault bytes na nd k l p q i j a b =
+one_third_fault : (bytes : List ℕ) (count : ChannelCounts) (k l p q : ℕ) (i j : Kind) → FirstFaultAt bytes count k p i → FirstFaultAt bytes count l q j → (k ≡ l) × (p ≡ q) × (i ≡ j)
+one_third_fault bytes count k l p q i j a b =
     elim (cases_order k l) [
       | inl same ↦
-          let here : FaultAt bytes (2 + l) (LineFault (row na nd l)) p i = subst (λ (m : ℕ). FaultAt bytes (2 + m) (LineFault (row na nd m)) p i) same a.here in
-          let both = one_line_fault bytes (2 + l) p q i j (LineFault (row na nd l)) (λ fs. one_fault (row na nd l) fs p q i j) here b.here in
+          let here : FaultAt bytes (2 + l) (LineFault (row count l)) p i = subst (λ (m : ℕ). FaultAt bytes (2 + m) (LineFault (row count m)) p i) same a.here in
+          let both = one_line_fault bytes (2 + l) p q i j (LineFault (row count l)) (λ fs. one_fault (row count l) fs p q i j) here b.here in
           (same, both.0, both.1)
-      | inr (inl less) ↦ absurd (third_or_fault bytes na nd k p i (b.before k less) a.here)
-      | inr (inr more) ↦ absurd (third_or_fault bytes na nd l q j (a.before l more) b.here)
+      | inr (inl less) ↦ absurd (third_or_fault bytes count k p i (b.before k less) a.here)
+      | inr (inr more) ↦ absurd (third_or_fault bytes count l q j (a.before l more) b.here)
     ]
 
 -- ---- one first fault
@@ -121,29 +122,34 @@ from_last bytes k l m p q i j (inl a) (inr b) = absurd (last_or_fault bytes k p 
 from_last bytes k l m p q i j (inr a) (inl b) = absurd (last_or_fault bytes k q j a.0 b.1)
 from_last bytes k l m p q i j (inr a) (inr b) = (a.1.0 ∙ sym b.1.0, a.1.1 ∙ sym b.1.1, a.1.2 ∙ sym b.1.2)
 
-from_third : (bytes : List ℕ) (na nd l m p q : ℕ) (i j : Kind) → FaultFromThird bytes na nd l p i → FaultFromThird bytes na nd m q j → Same l m p q i j
-from_third bytes na nd l m p q i j (inl a) (inl b) =
-    let all = one_third_fault bytes na nd a.0 b.0 p q i j a.2 b.2 in
+from_third : (bytes : List ℕ) (count : ChannelCounts) (l m p q : ℕ) (i j : Kind) → FaultFromThird bytes count l p i → FaultFromThird bytes count m q j → Same l m p q i j
+from_third bytes count l m p q i j (inl a) (inl b) =
+    let all = one_third_fault bytes count a.0 b.0 p q i j a.2 b.2 in
     (a.1 ∙ ap (λ (n : ℕ). n + 3) all.0 ∙ sym b.1, all.1, all.2)
-from_third bytes na nd l m p q i j (inl a) (inr b) = absurd (third_or_fault bytes na nd a.0 p i (b.0 a.0 a.2.within) a.2.here)
-from_third bytes na nd l m p q i j (inr a) (inl b) = absurd (third_or_fault bytes na nd b.0 q j (a.0 b.0 b.2.within) b.2.here)
-from_third bytes na nd l m p q i j (inr a) (inr b) = from_last bytes (2 + na + nd + 6) l m p q i j a.1 b.1
+from_third bytes count l m p q i j (inl a) (inr b) = absurd (third_or_fault bytes count a.0 p i (b.0 a.0 a.2.within) a.2.here)
+from_third bytes count l m p q i j (inr a) (inl b) = absurd (third_or_fault bytes count b.0 q j (a.0 b.0 b.2.within) b.2.here)
+from_third bytes count l m p q i j (inr a) (inr b) = from_last bytes (2 + count.analog + count.digital + 6) l m p q i j a.1 b.1
 
 pub counts_at_once : (bytes : List ℕ) (a d b e : ℕ) → HasLine bytes 1 (λ parts. IsCounts parts a d) → HasLine bytes 1 (λ parts. IsCounts parts b e) → (a ≡ b) × (d ≡ e)
 counts_at_once bytes a d b e p q =
     let same = counts_once q.0 (a + d) a d (b + e) b e (subst (λ (fs : List (List ℕ)). IsCounts fs a d) (one_line bytes 1 p.0 q.0 p.1 q.1) p.2) q.2 in
     (same.1, same.2)
 
+abbrev counts_of : (analog digital : ℕ) → ChannelCounts
+counts_of analog digital = record { analog = analog; digital = digital }
+
+pub same_counts : (a b : ChannelCounts) → a.analog ≡ b.analog → a.digital ≡ b.digital → a ≡ b
+same_counts a b analog digital = ap (λ (n : ℕ). counts_of n a.digital) analog ∙ ap (counts_of b.analog) digital
+
 from_second : (bytes : List ℕ) (l m p q : ℕ) (i j : Kind) → FaultFromSecond bytes l p i → FaultFromSecond bytes m q j → Same l m p q i j
 from_second bytes l m p q i j (inl a) (inl b) =
     let both = one_line_fault bytes 1 p q i j CountsFault (λ fs. one_counts_fault fs p q i j) a.1 b.1 in
     (a.0 ∙ sym b.0, both.0, both.1)
-from_second bytes l m p q i j (inl a) (inr b) = absurd (line_or_fault bytes 1 p i (λ parts. IsCounts parts b.0 b.1) CountsFault (λ fs. counts_or_fault fs b.0 b.1 p i) b.2 a.1)
-from_second bytes l m p q i j (inr a) (inl b) = absurd (line_or_fault bytes 1 q j (λ parts. IsCounts parts a.0 a.1) CountsFault (λ fs. counts_or_fault fs a.0 a.1 q j) a.2 b.1)
+from_second bytes l m p q i j (inl a) (inr b) = absurd (line_or_fault bytes 1 p i (λ parts. IsCounts parts b.0.analog b.0.digital) CountsFault (λ fs. counts_or_fault fs b.0.analog b.0.digital p i) b.1 a.1)
+from_second bytes l m p q i j (inr a) (inl b) = absurd (line_or_fault bytes 1 q j (λ parts. IsCounts parts a.0.analog a.0.digital) CountsFault (λ fs. counts_or_fault fs a.0.analog a.0.digital q j) a.1 b.1)
 from_second bytes l m p q i j (inr a) (inr b) =
-    let same = counts_at_once bytes a.0 a.1 b.0 b.1 a.2 b.2 in
-    let one : FaultFromThird bytes b.0 a.1 l p i = subst (λ (n : ℕ). FaultFromThird bytes n a.1 l p i) same.0 a.3 in
-    from_third bytes b.0 b.1 l m p q i j (subst (λ (n : ℕ). FaultFromThird bytes b.0 n l p i) same.1 one) b.3
+    let same = counts_at_once bytes a.0.analog a.0.digital b.0.analog b.0.digital a.1 b.1 in
+    from_third bytes b.0 l m p q i j (subst (λ (count : ChannelCounts). FaultFromThird bytes count l p i) (same_counts a.0 b.0 same.0 same.1) a.2) b.2
 
 -- bytes have at most one first fault
 pub one_first_fault : (bytes : List ℕ) (l m p q : ℕ) (i j : Kind) → IsFirstFault bytes l p i → IsFirstFault bytes m q j → Same l m p q i j

@@ -14,9 +14,9 @@ use Rattle.flk_text.proofs.PowersOfTen.{ten_pos, times_add}
 use Rattle.flk_text.proofs.DigitRuns.{number_small}
 use Rattle.flk_text.proofs.DecimalLaws.{value_in_set}
 use Rattle.flk_text.proofs.LineLaws.{no_lf_in_line}
-use Rattle.flk_cfg.specs.Values.{is_text_byte, IsText, HasText, IsDecimalOrZero}
-use Rattle.flk_cfg.specs.Dates.{IsSecondFraction}
-use Rattle.flk_cfg.specs.Table.{at}
+use Rattle.flk_field.specs.Values.{is_text_byte, IsText, HasText, IsDecimalOrZero}
+use Rattle.flk_field.specs.Dates.{IsSecondFraction}
+use Rattle.flk_field.specs.Sets.{at}
 use Rattle.flk_cfg.specs.Rows.{IsAnalog, IsDigital, IsStamp}
 use Rattle.flk_cfg.specs.Places.{HasLine, after_lines}
 use Rattle.flk_cfg.specs.File.{IsConfig}

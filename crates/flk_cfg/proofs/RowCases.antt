@@ -2,16 +2,17 @@
 use Rattle.std.proofs.Common.{◌≡◌, ◌⊎◌, ℕ, ◌+◌, List, [], ◌∷◌, length, refl, subst, arith, inl, inr, ℤ}
 use Rattle.std.proofs.lemmas.Bool.{cases_eq}
 use Rattle.flk_num.specs.declared.rate.Rate.{Rate}
-use Rattle.flk_cfg.specs.Values.{IsText, HasText, IsWholeFrom}
-use Rattle.flk_cfg.specs.Table.{Set, at, FaultFrom, LineFault, InFrom, IsIn, IsGoodLine, title_row, counts_row, analog_row, digital_row, frequency_row, rates_row, sampling_row, stamp_row, form_row, last_row}
+use Rattle.flk_field.specs.Values.{IsText, HasText, IsWholeFrom}
+use Rattle.flk_field.specs.Sets.{Set, at, FaultFrom, LineFault, InFrom, IsIn, IsGoodLine}
+use Rattle.flk_cfg.specs.Table.{title_row, counts_row, analog_row, digital_row, frequency_row, rates_row, sampling_row, stamp_row, form_row, last_row}
 use Rattle.flk_cfg.specs.Rows.{IsTitle, TitleFault, AreCounts, IsCounts, CountsFault, IsAnalog, IsDigital, IsLineFrequency, IsOneRate, IsSampling, IsStamp, IsFileType, IsMultiplier}
 use Rattle.flk_cfg.specs.declared.config.Analog.{Analog}
 use Rattle.flk_cfg.specs.declared.config.Digital.{Digital}
 use Rattle.flk_cfg.specs.declared.config.Stamp.{Stamp}
-use Rattle.flk_cfg.specs.declared.config.Form.{Form}
-use Rattle.flk_cfg.specs.declared.kind.Kind.{Kind}
-use Rattle.flk_cfg.specs.declared.kind.Kind.TheVariants as kinds
-use Rattle.flk_cfg.proofs.SetCases.{set_cases}
+use Rattle.flk_field.specs.declared.form.Form.{Form}
+use Rattle.flk_field.specs.declared.kind.Kind.{Kind}
+use Rattle.flk_field.specs.declared.kind.Kind.TheVariants as kinds
+use Rattle.flk_field.proofs.SetCases.{set_cases}
 
 -- ---- a line against its row
 

@@ -2,12 +2,13 @@
 use Rattle.std.proofs.Common.{◌≡◌, ℕ, ◌+◌, ◌-◌, ◌<◌, List, [], get_or, true, false, ltb, refl, arith, ℤ}
 use Rattle.std.proofs.lemmas.Bool.{lt-ltb, le-ltb}
 use Rattle.flk_num.specs.declared.rate.Rate.{Rate}
-use Rattle.flk_cfg.specs.Table.{IsIn, IsGoodLine, row, title_row, counts_row, analog_row, digital_row, frequency_row, rates_row, sampling_row, stamp_row, form_row, last_row, setting_rows}
+use Rattle.flk_field.specs.Sets.{IsIn, IsGoodLine}
+use Rattle.flk_cfg.specs.Table.{ChannelCounts, row, title_row, counts_row, analog_row, digital_row, frequency_row, rates_row, sampling_row, stamp_row, form_row, last_row, setting_rows}
 use Rattle.flk_cfg.specs.Rows.{IsTitle, AreCounts, IsAnalog, IsDigital, IsLineFrequency, IsOneRate, IsSampling, IsStamp, IsFileType, IsMultiplier}
 use Rattle.flk_cfg.specs.declared.config.Analog.{Analog}
 use Rattle.flk_cfg.specs.declared.config.Digital.{Digital}
 use Rattle.flk_cfg.specs.declared.config.Stamp.{Stamp}
-use Rattle.flk_cfg.specs.declared.config.Form.{Form}
+use Rattle.flk_field.specs.declared.form.Form.{Form}
 
 pub good_title : (fs : List (List ℕ)) (s d : List ℕ) → IsTitle fs s d → IsGoodLine title_row fs
 unfolding IsIn
@@ -75,24 +76,24 @@ good_multiplier fs z h = (h.count, ((z, h.value), tt))
 
 -- ---- the rows by their place
 
-pub row_analog : (na nd j : ℕ) → j < na → row na nd j ≡ analog_row (j + 1)
+pub row_analog : (count : ChannelCounts) (j : ℕ) → j < count.analog → row count j ≡ analog_row (j + 1)
 unfolding row
-row_analog na nd j lt =
-    let t : ltb j na ≡ true = lt-ltb j na lt in
+row_analog count j lt =
+    let t : ltb j count.analog ≡ true = lt-ltb j count.analog lt in
     rw t refl
 
-pub row_digital : (na nd i : ℕ) → i < nd → row na nd (na + i) ≡ digital_row (i + 1)
+pub row_digital : (count : ChannelCounts) (i : ℕ) → i < count.digital → row count (count.analog + i) ≡ digital_row (i + 1)
 unfolding row
-row_digital na nd i lt =
-    let off : ltb (na + i) na ≡ false = le-ltb (na + i) na (omega arith) in
-    let on : ltb (na + i) (na + nd) ≡ true = lt-ltb (na + i) (na + nd) (omega (arith, lt)) in
-    let same : na + i - na + 1 ≡ i + 1 = omega arith in
+row_digital count i lt =
+    let off : ltb (count.analog + i) count.analog ≡ false = le-ltb (count.analog + i) count.analog (omega arith) in
+    let on : ltb (count.analog + i) (count.analog + count.digital) ≡ true = lt-ltb (count.analog + i) (count.analog + count.digital) (omega (arith, lt)) in
+    let same : count.analog + i - count.analog + 1 ≡ i + 1 = omega arith in
     rw (off, on, same) refl
 
-pub row_setting : (na nd i : ℕ) → row na nd (na + nd + i) ≡ get_or setting_rows i []
+pub row_setting : (count : ChannelCounts) (i : ℕ) → row count (count.analog + count.digital + i) ≡ get_or setting_rows i []
 unfolding row
-row_setting na nd i =
-    let off : ltb (na + nd + i) na ≡ false = le-ltb (na + nd + i) na (omega arith) in
-    let off2 : ltb (na + nd + i) (na + nd) ≡ false = le-ltb (na + nd + i) (na + nd) (omega arith) in
-    let same : na + nd + i - (na + nd) ≡ i = omega arith in
+row_setting count i =
+    let off : ltb (count.analog + count.digital + i) count.analog ≡ false = le-ltb (count.analog + count.digital + i) count.analog (omega arith) in
+    let off2 : ltb (count.analog + count.digital + i) (count.analog + count.digital) ≡ false = le-ltb (count.analog + count.digital + i) (count.analog + count.digital) (omega arith) in
+    let same : count.analog + count.digital + i - (count.analog + count.digital) ≡ i = omega arith in
     rw (off, off2, same) refl

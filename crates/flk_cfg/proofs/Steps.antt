@@ -8,29 +8,15 @@ use Rattle.std.proofs.lemmas.List.{get_or_append_left}
 use Rattle.std.proofs.Math.Seq.{get_or-append_seam}
 use Rattle.flk_num.specs.declared.stop.Stop.{Stop}
 use Rattle.flk_num.specs.declared.stop.Stop.TheVariants as stop
-use Rattle.flk_cfg.specs.Table.{Set, IsGoodLine, LineFault}
+use Rattle.flk_field.specs.Sets.{Set, IsGoodLine, LineFault}
 use Rattle.flk_cfg.specs.Rows.{IsAnalog, IsDigital}
 use Rattle.flk_cfg.specs.Places.{HasLine, FaultAt}
 use Rattle.flk_cfg.specs.File.{AreAnalogs, AreDigitals}
-use Rattle.flk_cfg.specs.Reading.{StandsAt, FirstOf, Progress, StopIs}
+use Rattle.flk_cfg.specs.Reading.{StandsAt, FirstOf, Progress}
 use Rattle.flk_cfg.specs.declared.reader.Reader.{Reader}
-use Rattle.flk_cfg.specs.declared.kind.Fault.{Fault}
+use Rattle.flk_field.specs.declared.kind.Fault.{Fault}
 use Rattle.flk_cfg.specs.declared.config.Analog.{Analog}
 use Rattle.flk_cfg.specs.declared.config.Digital.{Digital}
-
--- the exit of a `?` whose fault is passed on
-pub err_exit : {T E : Type 0} (r : Result T E) (P : T → Type 0) (Q : E → Type 0) (f : E) → IsErrAnd r (λ y. y ≡ f) → Q f → MatchResult r P Q
-err_exit {T} {E} r P Q f e q =
-    let p = err_from_is_err_and r e in
-    subst (λ (x : Result T E). MatchResult x P Q) (sym p.1) (subst Q (sym p.2) q)
-
--- the same with want of memory
-pub stop_exit : {T : Type 0} (r : Result T (Stop Fault)) (P : T → Type 0) (Q : Fault → Type 0) (s : Stop Fault) → IsErrAnd r (λ y. y ≡ s) → StopIs Q s → MatchResult r P (StopIs Q)
-stop_exit r P Q s e q = err_exit r P (StopIs Q) s e q
-
-pub stop_weaker : (P Q : Fault → Type 0) (s : Stop Fault) → StopIs P s → ((f : Fault) → P f → Q f) → StopIs Q s
-stop_weaker P Q (stop.Fault f) p h = h f p
-stop_weaker P Q stop.OutOfMemory p h = tt
 
 pub progress_start : (rows : ℕ → List Set) (bytes : List ℕ) (k : ℕ) (r : Reader) → StandsAt r bytes k → Progress rows bytes k 0 r
 progress_start rows bytes k r s =

@@ -1,13 +1,14 @@
 -- The parts of the answer for the whole file.
 use Rattle.std.proofs.Common.{◌≡◌, ℕ, zero, suc, ◌+◌, ◌-◌, ◌<◌, ◌≤◌, List, [], length, sym, ap, subst, ◌∙◌, arith, inl, inr, pos, false}
 use Rattle.std.proofs.lemmas.Bool.{cases_lt}
-use Rattle.flk_cfg.specs.Table.{Set, IsGoodLine, LineFault, row, analog_row, digital_row}
+use Rattle.flk_field.specs.Sets.{Set, IsGoodLine, LineFault}
+use Rattle.flk_cfg.specs.Table.{ChannelCounts, row, analog_row, digital_row}
 use Rattle.flk_cfg.specs.Rows.{IsTitle, IsCounts}
 use Rattle.flk_cfg.specs.Places.{HasLine, FaultAt}
 use Rattle.flk_cfg.specs.File.{AreAnalogs, AreDigitals, AreSettings, IsConfig, IsGoodAt, FaultFromThird}
 use Rattle.flk_cfg.specs.Reading.{AreGood, FirstOf}
 use Rattle.flk_cfg.specs.SettingParts.{setting_at, AreSettingLines}
-use Rattle.flk_cfg.specs.declared.kind.Fault.{Fault}
+use Rattle.flk_field.specs.declared.kind.Fault.{Fault}
 use Rattle.flk_cfg.specs.declared.config.Analog.{Analog}
 use Rattle.flk_cfg.specs.declared.config.Digital.{Digital}
 use Rattle.flk_cfg.specs.declared.config.Config.{Config}
@@ -56,34 +57,34 @@ good_settings bytes k s (suc (suc (suc (suc (suc zero))))) are lt = (are.file_ty
 good_settings bytes k s (suc (suc (suc (suc (suc (suc i)))))) are lt = absurd (omega (arith, lt))
 
 -- the lines from the third on are good, so many of them
-abbrev pub GoodThird : List ℕ → ℕ → ℕ → ℕ → Type 0
-GoodThird bytes na nd n = (i : ℕ) → i < n → IsGoodAt bytes na nd i
+abbrev pub GoodThird : List ℕ → ChannelCounts → ℕ → Type 0
+GoodThird bytes count n = (i : ℕ) → i < n → IsGoodAt bytes count i
 
-pub good_none : (bytes : List ℕ) (na nd : ℕ) → GoodThird bytes na nd 0
-good_none bytes na nd = λ i lt. absurd (omega (arith, lt))
+pub good_none : (bytes : List ℕ) (count : ChannelCounts) → GoodThird bytes count 0
+good_none bytes count = λ i lt. absurd (omega (arith, lt))
 
-good_row : (bytes : List ℕ) (na nd n i : ℕ) (sets : List Set) → row na nd (n + i) ≡ sets → HasLine bytes (2 + n + i) (IsGoodLine sets) → IsGoodAt bytes na nd (n + i)
-good_row bytes na nd n i sets e h =
+good_row : (bytes : List ℕ) (count : ChannelCounts) (n i : ℕ) (sets : List Set) → row count (n + i) ≡ sets → HasLine bytes (2 + n + i) (IsGoodLine sets) → IsGoodAt bytes count (n + i)
+good_row bytes count n i sets e h =
     let same : 2 + n + i ≡ 2 + (n + i) = omega arith in
     let moved : HasLine bytes (2 + (n + i)) (IsGoodLine sets) = subst (λ (m : ℕ). HasLine bytes m (IsGoodLine sets)) same h in
     subst (λ (r : List Set). HasLine bytes (2 + (n + i)) (IsGoodLine r)) (sym e) moved
 
 -- a run that is good goes on
-pub good_run : (bytes : List ℕ) (na nd n m : ℕ) (rows : ℕ → List Set) → GoodThird bytes na nd n → ((i : ℕ) → i < m → row na nd (n + i) ≡ rows i) → AreGood rows bytes (2 + n) m → GoodThird bytes na nd (n + m)
-good_run bytes na nd n m rows good same run = λ j lt.
+pub good_run : (bytes : List ℕ) (count : ChannelCounts) (n m : ℕ) (rows : ℕ → List Set) → GoodThird bytes count n → ((i : ℕ) → i < m → row count (n + i) ≡ rows i) → AreGood rows bytes (2 + n) m → GoodThird bytes count (n + m)
+good_run bytes count n m rows good same run = λ j lt.
     elim (cases_lt j n) [
       | inl less ↦ good j less
       | inr past ↦
           let i = j - n in
           let e : n + (j - n) ≡ j = omega (arith, past) in
           let within : j - n < m = omega (arith, lt, past) in
-          subst (IsGoodAt bytes na nd) e (good_row bytes na nd n (j - n) (rows (j - n)) (same (j - n) within) (run (j - n) within))
+          subst (IsGoodAt bytes count) e (good_row bytes count n (j - n) (rows (j - n)) (same (j - n) within) (run (j - n) within))
     ]
 
 -- the first fault of a run behind good lines is the file's
-pub third_fault : (bytes : List ℕ) (na nd n m : ℕ) (rows : ℕ → List Set) (f : Fault) → GoodThird bytes na nd n → ((i : ℕ) → i < m → row na nd (n + i) ≡ rows i) → n + m ≤ na + nd + 6
-    → FirstOf rows m bytes (2 + n) f → FaultFromThird bytes na nd f.line f.field f.kind
-third_fault bytes na nd n m rows f good same few out =
+pub third_fault : (bytes : List ℕ) (count : ChannelCounts) (n m : ℕ) (rows : ℕ → List Set) (f : Fault) → GoodThird bytes count n → ((i : ℕ) → i < m → row count (n + i) ≡ rows i) → n + m ≤ count.analog + count.digital + 6
+    → FirstOf rows m bytes (2 + n) f → FaultFromThird bytes count f.line f.field f.kind
+third_fault bytes count n m rows f good same few out =
     let moved : 2 + n + out.i ≡ 2 + (n + out.i) = omega arith in
     let here : FaultAt bytes (2 + (n + out.i)) (LineFault (rows out.i)) f.field f.kind = subst (λ (k : ℕ). FaultAt bytes k (LineFault (rows out.i)) f.field f.kind) moved out.here in
     inl (
@@ -91,25 +92,25 @@ third_fault bytes na nd n m rows f good same few out =
       omega (arith, out.line),
       record {
         within = omega (arith, out.within, few);
-        before = good_run bytes na nd n out.i rows good (λ i lt. same i (omega (arith, lt, out.within))) out.before;
+        before = good_run bytes count n out.i rows good (λ i lt. same i (omega (arith, lt, out.within))) out.before;
         here = subst (λ (r : List Set). FaultAt bytes (2 + (n + out.i)) (LineFault r) f.field f.kind) (sym (same out.i out.within)) here;
       },
     )
 
-pub rows_analog : (na nd i : ℕ) → i < na → row na nd (0 + i) ≡ analog_row (i + 1)
-rows_analog na nd i lt =
+pub rows_analog : (count : ChannelCounts) (i : ℕ) → i < count.analog → row count (0 + i) ≡ analog_row (i + 1)
+rows_analog count i lt =
     let e : 0 + i ≡ i = omega arith in
-    ap (row na nd) e ∙ row_analog na nd i lt
+    ap (row count) e ∙ row_analog count i lt
 
 -- ---- the whole
 
-pub whole_config : (bytes : List ℕ) (c : Config) (na nd : ℕ) → HasLine bytes 0 (λ parts. IsTitle parts c.station c.device) → HasLine bytes 1 (λ parts. IsCounts parts na nd)
-    → (length c.analog ≡ na) × AreAnalogs bytes 2 c.analog → (length c.digital ≡ nd) × AreDigitals bytes (2 + na) c.digital → AreSettings bytes (2 + na + nd) c → IsConfig bytes c
-whole_config bytes c na nd title counts analog digital settings =
-    let a : na ≡ length c.analog = sym analog.0 in
-    let d : nd ≡ length c.digital = sym digital.0 in
-    let counts1 : HasLine bytes 1 (λ parts. IsCounts parts (length c.analog) nd) = subst (λ (n : ℕ). HasLine bytes 1 (λ parts. IsCounts parts n nd)) a counts in
-    let settings1 : AreSettings bytes (2 + length c.analog + nd) c = subst (λ (n : ℕ). AreSettings bytes (2 + n + nd) c) a settings in
+pub whole_config : (bytes : List ℕ) (c : Config) (count : ChannelCounts) → HasLine bytes 0 (λ parts. IsTitle parts c.station c.device) → HasLine bytes 1 (λ parts. IsCounts parts count.analog count.digital)
+    → (length c.analog ≡ count.analog) × AreAnalogs bytes 2 c.analog → (length c.digital ≡ count.digital) × AreDigitals bytes (2 + count.analog) c.digital → AreSettings bytes (2 + count.analog + count.digital) c → IsConfig bytes c
+whole_config bytes c count title counts analog digital settings =
+    let a : count.analog ≡ length c.analog = sym analog.0 in
+    let d : count.digital ≡ length c.digital = sym digital.0 in
+    let counts1 : HasLine bytes 1 (λ parts. IsCounts parts (length c.analog) count.digital) = subst (λ (n : ℕ). HasLine bytes 1 (λ parts. IsCounts parts n count.digital)) a counts in
+    let settings1 : AreSettings bytes (2 + length c.analog + count.digital) c = subst (λ (n : ℕ). AreSettings bytes (2 + n + count.digital) c) a settings in
     record {
       title = title;
       counts = subst (λ (n : ℕ). HasLine bytes 1 (λ parts. IsCounts parts (length c.analog) n)) d counts1;

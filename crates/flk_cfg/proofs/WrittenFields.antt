@@ -13,8 +13,8 @@ use Rattle.flk_text.specs.Lines.{Lacks}
 use Rattle.flk_text.proofs.PowersOfTen.{ten_more, ten_pos}
 use Rattle.flk_text.proofs.PlainTextLemmas.{digit_is, digit_few, plain_text, decimal_writes}
 use Rattle.flk_text.proofs.WrittenLaws.{stays, lacks_stays, digits_lack, lacks-append, IsApart, comma_apart, space_apart, lf_apart, numeral_lacks}
-use Rattle.flk_cfg.specs.Values.{IsText, HasText, IsWholeFrom, EndsIn, IsCounted, IsSide, is_text_byte}
-use Rattle.flk_cfg.specs.Dates.{IsNumber}
+use Rattle.flk_field.specs.Values.{IsText, HasText, IsWholeFrom, EndsIn, IsCounted, IsSide, is_text_byte}
+use Rattle.flk_field.specs.Dates.{IsNumber}
 use Rattle.flk_cfg.specs.Valid.{is_name_byte, IsName, IsSideLetter}
 use Rattle.flk_cfg.specs.Canonical.{padded}
 use Rattle.flk_cfg.proofs.WrittenLines.{IsCell}

@@ -5,7 +5,7 @@ use Rattle.std.proofs.lemmas.Int.{ints}
 use Rattle.std.proofs.lemmas.Bool.{cases_Bool, eqb-true}
 use Rattle.std.proofs.Math.Nat.{div-add-mod'}
 use Rattle.jiff.specs.Words.{days_in_month}
-use Rattle.flk_cfg.specs.Dates.{IsDateText, IsDateOf, IsSecondFraction, IsTimeText, IsTimeOf}
+use Rattle.flk_field.specs.Dates.{IsDateText, IsDateOf, IsSecondFraction, IsTimeText, IsTimeOf}
 use Rattle.flk_cfg.specs.Rows.{IsStamp}
 use Rattle.flk_cfg.specs.Valid.{IsValidStamp}
 use Rattle.flk_cfg.specs.Canonical.{padded, date_text, second_digits, time_text, stamp_fields}

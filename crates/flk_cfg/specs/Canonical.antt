@@ -7,8 +7,8 @@ use Rattle.flk_text.specs.PlainText.{plain}
 use Rattle.flk_cfg.specs.declared.config.Analog.{Analog}
 use Rattle.flk_cfg.specs.declared.config.Digital.{Digital}
 use Rattle.flk_cfg.specs.declared.config.Config.{Config}
-use Rattle.flk_cfg.specs.declared.config.Form.{Form}
-use Rattle.flk_cfg.specs.declared.config.Form.TheVariants.{Ascii, Binary}
+use Rattle.flk_field.specs.declared.form.Form.{Form}
+use Rattle.flk_field.specs.declared.form.Form.TheVariants.{Ascii, Binary}
 use Rattle.flk_cfg.specs.declared.config.Stamp.{Stamp}
 use Rattle.flk_cfg.specs.declared.kind.CfgFault.{CfgFault}
 use Rattle.flk_num.specs.declared.rate.Rate.{Rate}
@@ -51,14 +51,16 @@ title_fields c = c.station ∷ c.device ∷ codes "1999" ∷ []
 
 -- TT, ##A, ##D
 abbrev pub counts_fields : (analog digital : ℕ) → List (List ℕ)
-counts_fields analog digital = decimal (analog + digital) ∷ (decimal analog ++ codes "A") ∷ (decimal digital ++ codes "D") ∷ []
+counts_fields analog digital =
+    decimal (analog + digital) ∷ (decimal analog ++ codes "A") ∷ (decimal digital ++ codes "D") ∷ []
 
 -- An, ch_id, ph, ccbm, uu, a, b, skew, min, max, primary, secondary, PS
 abbrev pub analog_fields : (position : ℕ) → Analog → List (List ℕ)
 analog_fields position c =
     decimal position
     ∷ c.id ∷ c.ph ∷ c.ccbm ∷ c.uu
-    ∷ plain c.a.n ∷ plain c.b.n ∷ plain c.skew.n ∷ plain c.min.n ∷ plain c.max.n ∷ plain c.primary.n ∷ plain c.secondary.n
+    ∷ plain c.a.n ∷ plain c.b.n ∷ plain c.skew.n ∷ plain c.min.n ∷ plain c.max.n ∷ plain c.primary.n
+    ∷ plain c.secondary.n
     ∷ (c.ps ∷ []) ∷ []
 
 -- Dn, ch_id, ph, ccbm, y

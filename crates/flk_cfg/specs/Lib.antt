@@ -1,13 +1,13 @@
-pub mod Kinds
-pub mod Dates
-pub mod Values
+pub use Rattle.flk_field.specs.Kinds
+pub use Rattle.flk_field.specs.Dates
+pub use Rattle.flk_field.specs.Values
+pub use Rattle.flk_field.specs.Sets
 pub mod Table
 pub mod Rows
 pub mod Places
 pub mod File
 pub mod Valid
 pub mod Canonical
-pub mod DateParts
 pub mod Reading
 pub mod Runs
 pub mod SettingParts

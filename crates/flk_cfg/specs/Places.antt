@@ -2,8 +2,8 @@
 use Rattle.std.specs.Prelude.{◌≡◌, ℕ, zero, suc, ◌<◌, ◌⊎◌, List, [], length}
 use Rattle.flk_text.specs.Lines.{line_of, after_line, last_line_of, tail_of}
 use Rattle.flk_text.specs.Fields.{fields}
-use Rattle.flk_cfg.specs.declared.kind.Kind.{Kind}
-use Rattle.flk_cfg.specs.declared.kind.Kind.TheVariants as kinds
+use Rattle.flk_field.specs.declared.kind.Kind.{Kind}
+use Rattle.flk_field.specs.declared.kind.Kind.TheVariants as kinds
 
 -- what follows the first k lines
 abbrev pub after_lines : ℕ → List ℕ → List ℕ

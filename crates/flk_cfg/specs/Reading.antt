@@ -1,33 +1,12 @@
 -- What the parts of the reader keep and answer. Contracts of private functions cite this file: `File` says what a configuration is.
-use Rattle.std.specs.Prelude.{◌≡◌, ◌≢◌, ℕ, ◌+◌, ◌<◌, ◌⊎◌, List, map, take, length}
-use Rattle.flk_num.specs.declared.stop.Stop.{Stop}
-use Rattle.flk_num.specs.declared.stop.Stop.TheVariants as stop
-use Rattle.flk_cfg.specs.Table.{Set, at, Refuses, FaultFrom, LineFault, IsGoodLine}
+use Rattle.std.specs.Prelude.{◌≡◌, ◌≢◌, ℕ, ◌+◌, ◌<◌, ◌⊎◌, List, length}
+use Rattle.flk_field.specs.Sets.{Set, LineFault, IsGoodLine}
+use Rattle.flk_field.specs.Columns.{parts_of}
 use Rattle.flk_cfg.specs.Places.{after_lines, IsLineAt, HasLine, EndsAt, FaultAt}
-use Rattle.flk_cfg.specs.declared.columns.Columns.{Columns}
+use Rattle.flk_field.specs.declared.columns.Columns.{Columns}
 use Rattle.flk_cfg.specs.declared.reader.Reader.{Reader}
-use Rattle.flk_cfg.specs.declared.kind.Fault.{Fault}
-use Rattle.flk_cfg.specs.declared.kind.Kind.TheVariants as kinds
-
--- the fields of the line
-abbrev pub parts_of : Columns → List (List ℕ)
-parts_of c = take c.count (map (λ p. p.now) c.parts)
-
--- the field at the place isn't in the set, and this is its fault
-pub record FieldFault (set : Set) (c : Columns) (place : ℕ) (f : Fault) : Type 0 where
-  pub line : f.line ≡ c.line
-  pub field : f.field ≡ place
-  pub kind : Refuses set (at (parts_of c) place) f.kind
-
--- of the fields from a place on this is the first fault
-pub record RunFault (from : ℕ) (sets : List Set) (c : Columns) (f : Fault) : Type 0 where
-  pub line : f.line ≡ c.line
-  pub here : FaultFrom from sets (parts_of c) f.field f.kind
-
--- the fault, or want of memory
-abbrev pub StopIs : (Fault → Type 0) → Stop Fault → Type 0
-StopIs P (stop.Fault f) = P f
-StopIs P stop.OutOfMemory = Unit {0}
+use Rattle.flk_field.specs.declared.kind.Fault.{Fault}
+use Rattle.flk_field.specs.declared.kind.Kind.TheVariants as kinds
 
 -- the reader has taken the first k lines of the bytes
 pub record StandsAt (r : Reader) (bytes : List ℕ) (k : ℕ) : Type 0 where
@@ -48,7 +27,8 @@ pub record IsAt (bytes : List ℕ) (k count : ℕ) (c : Columns) : Type 0 where
 -- the fault of a line as a whole
 pub record WholeFault (bytes : List ℕ) (k count : ℕ) (f : Fault) : Type 0 where
   pub line : f.line ≡ k + 1
-  pub why : EndsAt bytes k f.field f.kind ⊎ HasLine bytes k (λ parts. (length parts ≢ count) × (f.field ≡ 0) × (f.kind ≡ kinds.Fields))
+  pub why : EndsAt bytes k f.field f.kind ⊎ HasLine bytes k
+      (λ parts. (length parts ≢ count) × (f.field ≡ 0) × (f.kind ≡ kinds.Fields))
 
 -- the lines after the first k, up to the n-th, are good
 abbrev pub AreGood : (rows : ℕ → List Set) → List ℕ → (k n : ℕ) → Type 0

@@ -3,15 +3,16 @@
 use Rattle.std.specs.Prelude.{◌≡◌, ◌≢◌, ℕ, ◌+◌, ◌-◌, ◌^◌, ◌⊎◌, List, length, codes, ℤ}
 use Rattle.flk_num.specs.declared.rate.Rate.{Rate}
 use Rattle.flk_text.specs.Decimal.{IsDecimal}
-use Rattle.flk_cfg.specs.Dates.{IsDateOf, IsTimeOf}
-use Rattle.flk_cfg.specs.Values.{HasText, IsWholeFrom, IsCounted, IsDecimalOrZero, IsFrequency, IsRate, IsSide, IsBit, IsFormWord}
-use Rattle.flk_cfg.specs.Table.{at, title_row, counts_row, LineFault}
+use Rattle.flk_field.specs.Dates.{IsDateOf, IsTimeOf}
+use Rattle.flk_field.specs.Values.{HasText, IsWholeFrom, IsCounted, IsDecimalOrZero, IsFrequency, IsRate, IsSide, IsBit, IsFormWord}
+use Rattle.flk_field.specs.Sets.{at, LineFault}
+use Rattle.flk_cfg.specs.Table.{title_row, counts_row}
 use Rattle.flk_cfg.specs.declared.config.Analog.{Analog}
 use Rattle.flk_cfg.specs.declared.config.Digital.{Digital}
-use Rattle.flk_cfg.specs.declared.config.Form.{Form}
+use Rattle.flk_field.specs.declared.form.Form.{Form}
 use Rattle.flk_cfg.specs.declared.config.Stamp.{Stamp}
-use Rattle.flk_cfg.specs.declared.kind.Kind.{Kind}
-use Rattle.flk_cfg.specs.declared.kind.Kind.TheVariants as kinds
+use Rattle.flk_field.specs.declared.kind.Kind.{Kind}
+use Rattle.flk_field.specs.declared.kind.Kind.TheVariants as kinds
 
 -- the first line: station_name, rec_dev_id, rev_year
 pub record IsTitle (fields : List (List ℕ)) (station device : List ℕ) : Type 0 where
@@ -23,7 +24,8 @@ pub record IsTitle (fields : List (List ℕ)) (station device : List ℕ) : Type
 -- a first line of two fields has no revision year, and that is its fault; else the row's fault is the line's
 abbrev pub TitleFault : List (List ℕ) → (place : ℕ) → Kind → Type 0
 TitleFault fields place kind =
-    ((length fields ≡ 2) × (place ≡ 3) × (kind ≡ kinds.Revision)) ⊎ ((length fields ≢ 2) × LineFault title_row fields place kind)
+    ((length fields ≡ 2) × (place ≡ 3) × (kind ≡ kinds.Revision))
+    ⊎ ((length fields ≢ 2) × LineFault title_row fields place kind)
 
 -- the fields of the second line, TT, ##A and ##D, are in their sets
 pub record AreCounts (fields : List (List ℕ)) (total analog digital : ℕ) : Type 0 where
@@ -40,7 +42,8 @@ IsCounts fields analog digital = AreCounts fields (analog + digital) analog digi
 abbrev pub CountsFault : List (List ℕ) → (place : ℕ) → Kind → Type 0
 CountsFault fields place kind =
     LineFault counts_row fields place kind
-    ⊎ ((total : ℕ) × (analog : ℕ) × (digital : ℕ) × AreCounts fields total analog digital × (total ≢ analog + digital) × (place ≡ 1) × (kind ≡ kinds.Range))
+    ⊎ ((total : ℕ) × (analog : ℕ) × (digital : ℕ) × AreCounts fields total analog digital × (total ≢ analog + digital)
+    × (place ≡ 1) × (kind ≡ kinds.Range))
 
 -- the line of an analog channel: An, ch_id, ph, ccbm, uu, a, b, skew, min, max, primary, secondary, PS
 pub record IsAnalog (position : ℕ) (fields : List (List ℕ)) (c : Analog) : Type 0 where

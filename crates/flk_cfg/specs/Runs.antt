@@ -1,8 +1,8 @@
 -- Runs of a row's columns, as the reader judges them. Contracts of private functions cite this file: `Rows` has the whole rows.
 use Rattle.std.specs.Prelude.{ℕ, Bool, List, [], ◌∷◌}
 use Rattle.flk_text.specs.Decimal.{IsDecimal}
-use Rattle.flk_cfg.specs.Values.{IsText, IsWholeFrom, IsDecimalOrZero, IsSide, IsBit}
-use Rattle.flk_cfg.specs.Table.{Set, Text, Decimal, DecimalOrZero, Side, at}
+use Rattle.flk_field.specs.Values.{IsText, IsWholeFrom, IsDecimalOrZero, IsSide, IsBit}
+use Rattle.flk_field.specs.Sets.{Set, Text, Decimal, DecimalOrZero, Side, at}
 use Rattle.flk_cfg.specs.declared.analog.Numbers.{Numbers}
 
 abbrev pub names_run : List Set

@@ -1,6 +1,7 @@
 -- The lines between those of the channels and the last one, as the reader takes them. Contracts of private functions cite this file.
 use Rattle.std.specs.Prelude.{ℕ, ◌+◌, List, [], get_or}
-use Rattle.flk_cfg.specs.Table.{Set, setting_rows}
+use Rattle.flk_field.specs.Sets.{Set}
+use Rattle.flk_cfg.specs.Table.{setting_rows}
 use Rattle.flk_cfg.specs.Rows.{IsLineFrequency, IsOneRate, IsSampling, IsStamp, IsFileType}
 use Rattle.flk_cfg.specs.Places.{HasLine}
 use Rattle.flk_cfg.specs.declared.settings.Settings.{Settings}

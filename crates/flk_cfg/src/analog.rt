@@ -1,17 +1,19 @@
 //! The lines of the analog channels.
 
 ghost use Rattle.std.specs.Prelude.{◌≡◌, ◌+◌, ◌<◌, ◌≤◌, ℕ, List as Sequence, length, OnOk, MatchResult};
-ghost use Rattle.flk_cfg.specs.Table.{LineFault, analog_row};
+ghost use Rattle.flk_field.specs.Sets.{LineFault};
+ghost use Rattle.flk_cfg.specs.Table.{analog_row};
 ghost use Rattle.flk_cfg.specs.Rows.{IsAnalog};
 ghost use Rattle.flk_cfg.specs.File.{AreAnalogs};
 ghost use Rattle.flk_cfg.specs.Places.{HasLine, FaultAt};
 ghost use Rattle.flk_cfg.specs.Runs.{names_run, numbers_run, AreNames, AreNumbers, AreAnalogParts};
-ghost use Rattle.flk_cfg.specs.Reading.{parts_of, RunFault, StandsAt, StopIs, FirstOf};
+ghost use Rattle.flk_field.specs.Columns.{parts_of, RunFault};
+ghost use Rattle.flk_cfg.specs.Reading.{StandsAt, FirstOf};
+ghost use Rattle.flk_num.specs.Stop.{StopIs};
 
-use crate::columns::{ANALOG_FIELDS, Columns};
 use crate::config::Analog;
-use crate::kind::Fault;
 use crate::reader::Reader;
+use flk_field::{ANALOG_FIELDS, Columns, Fault};
 use flk_num::{List, Stop};
 use flk_text::DecimalValue;
 use std::alloc::Global;
@@ -43,7 +45,8 @@ pub fn check_names(columns: &Columns<'_>) -> Result<(), Fault>
 /// The numbers of the line, and the letter at its end.
 fn check_numbers(columns: &Columns<'_>) -> Result<Numbers, Fault>
     requires { length (parts_of columns.now) ≡ 13 }
-    ensures { MatchResult result (λ n. AreNumbers (parts_of columns.now) n) (λ f. RunFault 6 numbers_run columns.now f) }
+    ensures { MatchResult result (λ n. AreNumbers (parts_of columns.now) n)
+        (λ f. RunFault 6 numbers_run columns.now f) }
 {
     Ok(Numbers {
         a: columns.decimal(6)?,
@@ -58,10 +61,11 @@ fn check_numbers(columns: &Columns<'_>) -> Result<Numbers, Fault>
 }
 
 /// The numbers of the line of the channel at a position, where all its fields are in their sets.
-#[tactic(auto, unfolding(crate::specs::Table::IsIn))]
+#[tactic(auto, unfolding(flk_field::specs::Sets::IsIn))]
 fn check_analog(position: u32, columns: &Columns<'_>) -> Result<Numbers, Fault>
     requires { length (parts_of columns.now) ≡ 13 }
-    ensures { MatchResult result (λ n. AreAnalogParts position (parts_of columns.now) n) (λ f. RunFault 1 (analog_row position) columns.now f) }
+    ensures { MatchResult result (λ n. AreAnalogParts position (parts_of columns.now) n)
+        (λ f. RunFault 1 (analog_row position) columns.now f) }
 {
     columns.position(1, position)?;
     check_names(columns)?;
@@ -74,7 +78,8 @@ fn read_analog(alloc: Global, position: u32, reader: &mut Reader<'_>) -> Result<
     requires { reader.old.number ≤ 1300 }
     ensures number { reader.new.number ≡ reader.old.number + 1 }
     ensures stands { (bytes : Sequence ℕ) (k : ℕ) → StandsAt reader.old bytes k → StandsAt reader.new bytes (k + 1) }
-    ensures channel { (bytes : Sequence ℕ) (k : ℕ) → StandsAt reader.old bytes k → MatchResult result (λ c. HasLine bytes k (λ parts. IsAnalog position parts c))
+    ensures channel { (bytes : Sequence ℕ) (k : ℕ) → StandsAt reader.old bytes k → MatchResult result
+        (λ c. HasLine bytes k (λ parts. IsAnalog position parts c))
         (λ s. StopIs (λ f. (f.line ≡ k + 1) × FaultAt bytes k (LineFault (analog_row position)) f.field f.kind) s) }
 {
     let columns = reader.columns(ANALOG_FIELDS)?;
@@ -103,8 +108,10 @@ pub fn read_analogs(
 ) -> Result<List<Analog>, Stop<Fault>>
     requires few { (reader.old.number ≤ 1000) × (count ≤ 256) }
     ensures number { OnOk result (reader.new.number ≡ reader.old.number + count) }
-    ensures stands { (bytes : Sequence ℕ) (k : ℕ) → StandsAt reader.old bytes k → OnOk result (StandsAt reader.new bytes (k + count)) }
-    ensures channels { (bytes : Sequence ℕ) (k : ℕ) → StandsAt reader.old bytes k → MatchResult result (λ cs. (length cs ≡ count) × AreAnalogs bytes k cs)
+    ensures stands { (bytes : Sequence ℕ) (k : ℕ) → StandsAt reader.old bytes k
+        → OnOk result (StandsAt reader.new bytes (k + count)) }
+    ensures channels { (bytes : Sequence ℕ) (k : ℕ) → StandsAt reader.old bytes k → MatchResult result
+        (λ cs. (length cs ≡ count) × AreAnalogs bytes k cs)
         (λ s. StopIs (λ f. FirstOf (λ i. analog_row (i + 1)) count bytes k f) s) }
 {
     let mut channels = List::new(alloc);

@@ -1,22 +1,11 @@
 //! What a configuration says.
 
+use flk_field::Form;
 use flk_num::{List, Rate};
 use flk_text::DecimalValue;
 
-/// The most bytes of a text.
-pub const LONGEST_TEXT: usize = 64;
-
 /// The most channels of a kind.
 pub const MOST_CHANNELS: u32 = 256;
-
-/// The form of the data file.
-#[derive(Clone, Copy, Debug, PartialEq, Eq)]
-pub enum Form {
-    /// Lines of text.
-    Ascii,
-    /// Records of binary numbers.
-    Binary,
-}
 
 /// A date of the proleptic Gregorian calendar, from year 1 on, and a time of that day.
 #[derive(Clone, Copy, Debug, PartialEq, Eq)]

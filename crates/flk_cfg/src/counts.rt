@@ -4,12 +4,12 @@ ghost use Rattle.std.specs.Prelude.{◌≡◌, ◌+◌, ◌≤◌, ℕ, List, le
 ghost use Rattle.flk_cfg.specs.Places.{HasLine, FaultAt};
 ghost use Rattle.flk_cfg.specs.Rows.{AreCounts, IsCounts, CountsFault};
 ghost use Rattle.flk_cfg.specs.Table.{counts_row};
-ghost use Rattle.flk_cfg.specs.Reading.{parts_of, RunFault, StandsAt};
+ghost use Rattle.flk_field.specs.Columns.{parts_of, RunFault};
+ghost use Rattle.flk_cfg.specs.Reading.{StandsAt};
 
-use crate::columns::Columns;
 use crate::config::MOST_CHANNELS;
-use crate::kind::{Fault, Kind};
 use crate::reader::Reader;
+use flk_field::{Columns, Fault, Kind};
 
 /// The numbers of analog and of digital channels, and what the first field says of both.
 #[derive(Clone, Copy)]
@@ -22,7 +22,8 @@ pub struct Counts {
 /// The fields of the second line, each in its set.
 fn check_counts(columns: &Columns<'_>) -> Result<Counts, Fault>
     requires { length (parts_of columns.now) ≡ 3 }
-    ensures { MatchResult result (λ c. AreCounts (parts_of columns.now) c.total c.analog c.digital) (λ f. RunFault 1 counts_row columns.now f) }
+    ensures { MatchResult result (λ c. AreCounts (parts_of columns.now) c.total c.analog c.digital)
+        (λ f. RunFault 1 counts_row columns.now f) }
 {
     let total = columns.total(1)?;
     let analog = columns.counted(2, b'A', 1, MOST_CHANNELS)?;
@@ -39,7 +40,8 @@ pub fn read_counts(reader: &mut Reader<'_>) -> Result<Counts, Fault>
     requires { reader.old.number ≤ 1000 }
     ensures number { reader.new.number ≡ reader.old.number + 1 }
     ensures stands { (bytes : List ℕ) (k : ℕ) → StandsAt reader.old bytes k → StandsAt reader.new bytes (k + 1) }
-    ensures counts { (bytes : List ℕ) (k : ℕ) → StandsAt reader.old bytes k → MatchResult result (λ c. HasLine bytes k (λ parts. IsCounts parts c.analog c.digital))
+    ensures counts { (bytes : List ℕ) (k : ℕ) → StandsAt reader.old bytes k → MatchResult result
+        (λ c. HasLine bytes k (λ parts. IsCounts parts c.analog c.digital))
         (λ f. (f.line ≡ k + 1) × FaultAt bytes k CountsFault f.field f.kind) }
     ensures few { IfOk result (λ c. (c.analog ≤ 256) × (c.digital ≤ 256)) }
 {

@@ -2,23 +2,25 @@
 
 ghost use Rattle.std.specs.Prelude.{MatchResult};
 ghost use Rattle.flk_cfg.specs.File.{IsConfig, IsFirstFault, IsFileAnswer};
-ghost use Rattle.flk_cfg.specs.Reading.{StopIs};
+ghost use Rattle.flk_num.specs.Stop.{StopIs};
 
 use crate::analog::read_analogs;
 use crate::config::Config;
 use crate::counts::read_counts;
 use crate::digital::read_digitals;
-use crate::kind::{CfgFault, Fault};
+use crate::kind::CfgFault;
 use crate::last::read_last;
 use crate::reader::Reader;
 use crate::settings::read_settings;
 use crate::title::read_title;
+use flk_field::Fault;
 use flk_num::Stop;
 use std::alloc::Global;
 
 /// The configuration that the bytes write, or their first fault.
 fn read_config(alloc: Global, bytes: &[u8]) -> Result<Config, Stop<Fault>>
-    ensures { MatchResult result (λ c. IsConfig bytes.now c) (λ s. StopIs (λ f. IsFirstFault bytes.now f.line f.field f.kind) s) }
+    ensures { MatchResult result (λ c. IsConfig bytes.now c)
+        (λ s. StopIs (λ f. IsFirstFault bytes.now f.line f.field f.kind) s) }
 {
     let mut reader = Reader::new(bytes);
     let title = read_title(alloc, &mut reader)?;

@@ -6,17 +6,18 @@ ghost use Rattle.flk_cfg.specs.Table.{last_row};
 ghost use Rattle.flk_cfg.specs.Rows.{IsMultiplier};
 ghost use Rattle.flk_cfg.specs.Places.{HasLastLine, tail_at};
 ghost use Rattle.flk_cfg.specs.File.{FaultFromLast};
-ghost use Rattle.flk_cfg.specs.Reading.{parts_of, RunFault, StandsAt};
+ghost use Rattle.flk_field.specs.Columns.{parts_of, RunFault};
+ghost use Rattle.flk_cfg.specs.Reading.{StandsAt};
 
-use crate::columns::Columns;
-use crate::kind::{Fault, Kind};
 use crate::reader::Reader;
+use flk_field::{Columns, Fault, Kind};
 use flk_text::{DecimalValue, is_tail};
 
 /// The factor of the time stamps.
 fn multiplier(columns: &Columns<'_>) -> Result<DecimalValue, Fault>
     requires { length (parts_of columns.now) ≡ 1 }
-    ensures { MatchResult result (λ v. IsMultiplier (parts_of columns.now) v.n) (λ f. RunFault 1 last_row columns.now f) }
+    ensures { MatchResult result (λ v. IsMultiplier (parts_of columns.now) v.n)
+        (λ f. RunFault 1 last_row columns.now f) }
 {
     columns.decimal(1)
 }
@@ -24,7 +25,8 @@ fn multiplier(columns: &Columns<'_>) -> Result<DecimalValue, Fault>
 /// The last line, behind which a tail stands.
 pub fn read_last(reader: &mut Reader<'_>) -> Result<DecimalValue, Fault>
     requires { reader.old.number ≤ 1000 }
-    ensures { (bytes : List ℕ) (k : ℕ) → StandsAt reader.old bytes k → MatchResult result (λ v. HasLastLine bytes k (λ parts. IsMultiplier parts v.n) × IsTail (tail_at bytes k))
+    ensures { (bytes : List ℕ) (k : ℕ) → StandsAt reader.old bytes k → MatchResult result
+        (λ v. HasLastLine bytes k (λ parts. IsMultiplier parts v.n) × IsTail (tail_at bytes k))
         (λ f. FaultFromLast bytes k f.line f.field f.kind) }
 {
     let line = reader.last_line()?;

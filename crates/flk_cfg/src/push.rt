@@ -5,7 +5,8 @@ ghost use Rattle.flk_text.specs.PlainText.{plain};
 ghost use Rattle.flk_cfg.specs.Canonical.{padded, date_text, second_digits, time_text, form_text, rate_text, title_fields, counts_fields, analog_fields, digital_fields, analog_lines, digital_lines, stamp_fields, setting_lines, line_text, lines_text};
 ghost use Rattle.flk_cfg.specs.Valid.{IsValidStamp};
 
-use crate::config::{Analog, Config, Digital, Form, Stamp};
+use crate::config::{Analog, Config, Digital, Stamp};
+use flk_field::Form;
 use flk_num::Rate;
 use flk_text::{DecimalValue, push_decimal};
 use itoa::Buffer;
@@ -125,7 +126,9 @@ pub fn push_counts(out: &mut Vec<u8>, analog: u32, digital: u32) -> Result<(), A
 
 /// Appends the position and the texts of an analog channel.
 fn push_names(out: &mut Vec<u8>, position: u32, channel: &Analog) -> Result<(), AllocError>
-    ensures { OnOk result (out.new.items ≡ out.old.items ++ (decimal position ++ 44 ∷ (channel.now.id ++ 44 ∷ (channel.now.ph ++ 44 ∷ (channel.now.ccbm ++ 44 ∷ (channel.now.uu ++ 44 ∷ [])))))) }
+    ensures { OnOk result (out.new.items ≡ out.old.items
+        ++ (decimal position ++ 44 ∷ (channel.now.id ++ 44 ∷ (channel.now.ph ++ 44 ∷ (channel.now.ccbm ++ 44
+        ∷ (channel.now.uu ++ 44 ∷ [])))))) }
 {
     push_number(out, position)?;
     out.extend_from_slice(b",")?;
@@ -137,7 +140,8 @@ fn push_names(out: &mut Vec<u8>, position: u32, channel: &Analog) -> Result<(), 
 
 /// Appends the multiplier, the offset and the skew of an analog channel.
 fn push_scale(out: &mut Vec<u8>, channel: &Analog) -> Result<(), AllocError>
-    ensures { OnOk result (out.new.items ≡ out.old.items ++ (plain channel.now.a.n ++ 44 ∷ (plain channel.now.b.n ++ 44 ∷ (plain channel.now.skew.n ++ 44 ∷ [])))) }
+    ensures { OnOk result (out.new.items ≡ out.old.items
+        ++ (plain channel.now.a.n ++ 44 ∷ (plain channel.now.b.n ++ 44 ∷ (plain channel.now.skew.n ++ 44 ∷ [])))) }
 {
     push_value(out, channel.a)?;
     push_value(out, channel.b)?;
@@ -146,7 +150,9 @@ fn push_scale(out: &mut Vec<u8>, channel: &Analog) -> Result<(), AllocError>
 
 /// Appends the least and the greatest sample and the two factors of an analog channel.
 fn push_ranges(out: &mut Vec<u8>, channel: &Analog) -> Result<(), AllocError>
-    ensures { OnOk result (out.new.items ≡ out.old.items ++ (plain channel.now.min.n ++ 44 ∷ (plain channel.now.max.n ++ 44 ∷ (plain channel.now.primary.n ++ 44 ∷ (plain channel.now.secondary.n ++ 44 ∷ []))))) }
+    ensures { OnOk result (out.new.items ≡ out.old.items
+        ++ (plain channel.now.min.n ++ 44 ∷ (plain channel.now.max.n ++ 44 ∷ (plain channel.now.primary.n ++ 44
+        ∷ (plain channel.now.secondary.n ++ 44 ∷ []))))) }
 {
     push_value(out, channel.min)?;
     push_value(out, channel.max)?;
@@ -235,7 +241,8 @@ fn push_sampling(
 fn push_stamps(out: &mut Vec<u8>, first: &Stamp, trigger: &Stamp) -> Result<(), AllocError>
     requires first { IsValidStamp first.now }
     requires trigger { IsValidStamp trigger.now }
-    ensures { OnOk result (out.new.items ≡ out.old.items ++ lines_text (stamp_fields first.now ∷ stamp_fields trigger.now ∷ [])) }
+    ensures { OnOk result (out.new.items ≡ out.old.items
+        ++ lines_text (stamp_fields first.now ∷ stamp_fields trigger.now ∷ [])) }
 {
     push_stamp(out, first)?;
     push_stamp(out, trigger)
@@ -253,7 +260,8 @@ fn push_form(out: &mut Vec<u8>, form: Form) -> Result<(), AllocError>
 
 /// Appends the last two lines: the data file's form, and the factor of the time stamps.
 fn push_end(out: &mut Vec<u8>, form: Form, timemult: DecimalValue) -> Result<(), AllocError>
-    ensures { OnOk result (out.new.items ≡ out.old.items ++ lines_text ((form_text form ∷ []) ∷ (plain timemult.n ∷ []) ∷ [])) }
+    ensures { OnOk result (out.new.items ≡ out.old.items
+        ++ lines_text ((form_text form ∷ []) ∷ (plain timemult.n ∷ []) ∷ [])) }
 {
     push_form(out, form)?;
     out.extend_from_slice(b"\r\n")?;

@@ -3,11 +3,11 @@
 ghost use Rattle.std.specs.Prelude.{◌≡◌, ◌+◌, ◌<◌, ◌≤◌, ℕ, List, length, IfOk, MatchResult};
 ghost use Rattle.flk_text.specs.Fields.{fields};
 ghost use Rattle.flk_cfg.specs.Places.{IsLineAt, IsLastLineAt, tail_at};
-ghost use Rattle.flk_cfg.specs.declared.kind.Kind.TheVariants as kinds;
-ghost use Rattle.flk_cfg.specs.Reading.{StandsAt, NoLine, IsAt, WholeFault, parts_of};
+ghost use Rattle.flk_field.specs.declared.kind.Kind.TheVariants as kinds;
+ghost use Rattle.flk_field.specs.Columns.{parts_of};
+ghost use Rattle.flk_cfg.specs.Reading.{StandsAt, NoLine, IsAt, WholeFault};
 
-use crate::columns::Columns;
-use crate::kind::{Fault, Kind};
+use flk_field::{Columns, Fault, Kind};
 use flk_text::Lines;
 
 /// What is left of a configuration, and the number of the line that was taken last.
@@ -44,7 +44,8 @@ impl<'a> Reader<'a> {
         requires few { self.old.number < 2000 }
         ensures number { self.new.number ≡ self.old.number + 1 }
         ensures stands { (bytes : List ℕ) (k : ℕ) → StandsAt self.old bytes k → StandsAt self.new bytes (k + 1) }
-        ensures line { (bytes : List ℕ) (k : ℕ) → StandsAt self.old bytes k → MatchResult result (λ line. IsLineAt bytes k (fields line.now)) (λ f. NoLine bytes k f) }
+        ensures line { (bytes : List ℕ) (k : ℕ) → StandsAt self.old bytes k → MatchResult result
+            (λ line. IsLineAt bytes k (fields line.now)) (λ f. NoLine bytes k f) }
     {
         self.number += 1;
         match self.lines.next_line() {
@@ -58,7 +59,8 @@ impl<'a> Reader<'a> {
         requires few { self.old.number < 2000 }
         ensures number { self.new.number ≡ self.old.number + 1 }
         ensures tail { (bytes : List ℕ) (k : ℕ) → StandsAt self.old bytes k → self.new.lines ≡ tail_at bytes k }
-        ensures line { (bytes : List ℕ) (k : ℕ) → StandsAt self.old bytes k → MatchResult result (λ line. IsLastLineAt bytes k (fields line.now)) (λ f. NoLine bytes k f) }
+        ensures line { (bytes : List ℕ) (k : ℕ) → StandsAt self.old bytes k → MatchResult result
+            (λ line. IsLastLineAt bytes k (fields line.now)) (λ f. NoLine bytes k f) }
     {
         self.number += 1;
         match self.lines.last_line() {
@@ -74,7 +76,8 @@ impl<'a> Reader<'a> {
         ensures number { self.new.number ≡ self.old.number + 1 }
         ensures stands { (bytes : List ℕ) (k : ℕ) → StandsAt self.old bytes k → StandsAt self.new bytes (k + 1) }
         ensures count { IfOk result (λ c. length (parts_of c) ≡ count) }
-        ensures line { (bytes : List ℕ) (k : ℕ) → StandsAt self.old bytes k → MatchResult result (λ c. IsAt bytes k count c) (λ f. WholeFault bytes k count f) }
+        ensures line { (bytes : List ℕ) (k : ℕ) → StandsAt self.old bytes k → MatchResult result
+            (λ c. IsAt bytes k count c) (λ f. WholeFault bytes k count f) }
     {
         let line = self.next_line()?;
         Columns::of(line, self.number, count)

@@ -5,8 +5,8 @@ ghost use Rattle.std.specs.List.{list_all};
 ghost use Rattle.flk_text.specs.DigitsRead.{IsLong};
 ghost use Rattle.flk_cfg.specs.Valid.{is_name_byte as is_name_byte_of, IsName, IsValue, IsSideLetter, IsValidStamp, IsValidAnalog, IsValidDigital, IsValid};
 
-use crate::config::{Analog, Config, Digital, LONGEST_TEXT, MOST_CHANNELS, Stamp};
-use crate::date::{is_date, is_of_a_day};
+use crate::config::{Analog, Config, Digital, MOST_CHANNELS, Stamp};
+use flk_field::{LONGEST_TEXT, is_date, is_of_a_day};
 use flk_text::DecimalValue;
 
 /// 10^12 in units of 10^-24.
@@ -31,7 +31,8 @@ fn has_names(c: &Config) -> bool
 
 /// Whether the channels can be written.
 fn has_channels(c: &Config) -> bool
-    ensures { IsTrue result ↔ ((1 ≤ length c.now.analog) × (length c.now.analog ≤ 256) × All IsValidAnalog c.now.analog × (length c.now.digital ≤ 256) × All IsValidDigital c.now.digital) }
+    ensures { IsTrue result ↔ ((1 ≤ length c.now.analog) × (length c.now.analog ≤ 256) × All IsValidAnalog c.now.analog
+        × (length c.now.digital ≤ 256) × All IsValidDigital c.now.digital) }
 {
     let analog = c.analog.as_slice();
     let digital = c.digital.as_slice();
@@ -44,7 +45,9 @@ fn has_channels(c: &Config) -> bool
 
 /// Whether what follows the channels can be written.
 fn has_settings(c: &Config) -> bool
-    ensures { IsTrue result ↔ ((IsValue c.now.lf.n × (pos 0 <ℤ c.now.lf.n)) × ((1 ≤ c.now.endsamp) × (c.now.endsamp ≤ 4294967295)) × (IsValidStamp c.now.first × IsValidStamp c.now.trigger) × IsValue c.now.timemult.n) }
+    ensures { IsTrue result ↔ ((IsValue c.now.lf.n × (pos 0 <ℤ c.now.lf.n))
+        × ((1 ≤ c.now.endsamp) × (c.now.endsamp ≤ 4294967295)) × (IsValidStamp c.now.first × IsValidStamp c.now.trigger)
+        × IsValue c.now.timemult.n) }
 {
     is_frequency(c.lf) && is_count(c.endsamp) && has_stamps(c) && is_value(c.timemult)
 }
@@ -103,7 +106,8 @@ fn is_analog(channel: &Analog) -> bool
 
 /// Whether the texts of an analog channel are texts that a field can be.
 fn has_analog_names(channel: &Analog) -> bool
-    ensures { IsTrue result ↔ ((IsName channel.now.id × IsName channel.now.ph) × (IsName channel.now.ccbm × IsName channel.now.uu)) }
+    ensures { IsTrue result ↔ ((IsName channel.now.id × IsName channel.now.ph)
+        × (IsName channel.now.ccbm × IsName channel.now.uu)) }
 {
     is_name(channel.id.as_slice())
         && is_name(channel.ph.as_slice())
@@ -113,14 +117,18 @@ fn has_analog_names(channel: &Analog) -> bool
 
 /// Whether the numbers of an analog channel are in the set, and its letter is one of the four.
 fn has_analog_values(channel: &Analog) -> bool
-    ensures { IsTrue result ↔ (((IsValue channel.now.a.n × IsValue channel.now.b.n × IsValue channel.now.skew.n) × ((IsValue channel.now.min.n × IsValue channel.now.max.n) × (IsValue channel.now.primary.n × IsValue channel.now.secondary.n))) × IsSideLetter channel.now.ps) }
+    ensures { IsTrue result ↔ (((IsValue channel.now.a.n × IsValue channel.now.b.n × IsValue channel.now.skew.n)
+        × ((IsValue channel.now.min.n × IsValue channel.now.max.n)
+        × (IsValue channel.now.primary.n × IsValue channel.now.secondary.n))) × IsSideLetter channel.now.ps) }
 {
     has_numbers(channel) && is_side(channel.ps)
 }
 
 /// Whether the numbers of an analog channel are in the set.
 fn has_numbers(channel: &Analog) -> bool
-    ensures { IsTrue result ↔ ((IsValue channel.now.a.n × IsValue channel.now.b.n × IsValue channel.now.skew.n) × ((IsValue channel.now.min.n × IsValue channel.now.max.n) × (IsValue channel.now.primary.n × IsValue channel.now.secondary.n))) }
+    ensures { IsTrue result ↔ ((IsValue channel.now.a.n × IsValue channel.now.b.n × IsValue channel.now.skew.n)
+        × ((IsValue channel.now.min.n × IsValue channel.now.max.n)
+        × (IsValue channel.now.primary.n × IsValue channel.now.secondary.n))) }
 {
     has_scale(channel) && has_range(channel)
 }
@@ -134,7 +142,8 @@ fn has_scale(channel: &Analog) -> bool
 
 /// Whether the least and the greatest sample and the two factors are in the set.
 fn has_range(channel: &Analog) -> bool
-    ensures { IsTrue result ↔ ((IsValue channel.now.min.n × IsValue channel.now.max.n) × (IsValue channel.now.primary.n × IsValue channel.now.secondary.n)) }
+    ensures { IsTrue result ↔ ((IsValue channel.now.min.n × IsValue channel.now.max.n)
+        × (IsValue channel.now.primary.n × IsValue channel.now.secondary.n)) }
 {
     is_value(channel.min)
         && is_value(channel.max)

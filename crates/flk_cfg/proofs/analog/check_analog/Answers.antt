@@ -1,6 +1,6 @@
 use Rattle.std.proofs.Common.{inr}
 use Rattle.std.proofs.lemmas.Result.{MatchResult-weaker}
-use Rattle.flk_cfg.specs.Table.{IsIn}
+use Rattle.flk_field.specs.Sets.{IsIn}
 use Rattle.flk_cfg.proofs.analog.check_analog.Goals as goal
 
 pub returns : goal.returns

@@ -1,5 +1,5 @@
 use Rattle.std.proofs.Common.{◌∙◌}
-use Rattle.flk_cfg.specs.Reading.{parts_of}
+use Rattle.flk_field.specs.Columns.{parts_of}
 use Rattle.flk_cfg.proofs.analog.read_analog.Goals as goal
 
 pub returns-clause-channel : goal.returns-clause-channel

@@ -4,7 +4,8 @@ use Rattle.flk_cfg.specs.File.{AreAnalogs}
 use Rattle.flk_cfg.specs.Reading.{FirstOf, StandsAt}
 use Rattle.flk_cfg.specs.declared.config.Analog.{Analog}
 use Rattle.flk_cfg.proofs.Rows.{good_analog}
-use Rattle.flk_cfg.proofs.Steps.{stop_exit, stop_weaker, progress_start, progress_step, progress_fault, analogs_more}
+use Rattle.flk_cfg.proofs.Steps.{progress_start, progress_step, progress_fault, analogs_more}
+use Rattle.flk_num.proofs.StopLemmas.{stop_exit, stop_weaker}
 use Rattle.flk_cfg.proofs.analog.read_analogs.Goals as goal
 
 pub loop-i-init : goal.loop-i-init

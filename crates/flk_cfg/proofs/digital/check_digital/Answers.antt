@@ -1,6 +1,6 @@
 use Rattle.std.proofs.Common.{inl, inr}
 use Rattle.std.proofs.lemmas.Result.{MatchResult-weaker}
-use Rattle.flk_cfg.specs.Table.{IsIn}
+use Rattle.flk_field.specs.Sets.{IsIn}
 use Rattle.flk_cfg.proofs.digital.check_digital.Goals as goal
 
 pub returns : goal.returns

@@ -2,7 +2,8 @@ use Rattle.std.proofs.Common.{◌≡◌, inr, rules, refl, sym, arith, subst, �
 use Rattle.flk_text.specs.Tail.{IsTail}
 use Rattle.flk_text.specs.Fields.{fields}
 use Rattle.flk_cfg.specs.Places.{tail_at}
-use Rattle.flk_cfg.specs.Table.{IsGoodLine, last_row}
+use Rattle.flk_field.specs.Sets.{IsGoodLine}
+use Rattle.flk_cfg.specs.Table.{last_row}
 use Rattle.flk_cfg.proofs.Rows.{good_multiplier}
 use Rattle.flk_cfg.proofs.last.read_last.Goals as goal
 

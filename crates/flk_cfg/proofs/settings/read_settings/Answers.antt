@@ -4,7 +4,8 @@ use Rattle.flk_cfg.specs.Reading.{FirstOf}
 use Rattle.flk_cfg.specs.Rows.{IsLineFrequency}
 use Rattle.flk_cfg.specs.Places.{HasLine}
 use Rattle.flk_cfg.proofs.Rows.{good_frequency, good_rates, good_sampling, good_stamp, good_form}
-use Rattle.flk_cfg.proofs.Steps.{err_exit, progress_start, progress_step, progress_fault}
+use Rattle.flk_cfg.proofs.Steps.{progress_start, progress_step, progress_fault}
+use Rattle.flk_num.proofs.StopLemmas.{err_exit}
 use Rattle.flk_cfg.proofs.settings.read_settings.Goals as goal
 
 pub returns-in_err-lf-clause-settings : goal.returns-in_err-lf-clause-settings

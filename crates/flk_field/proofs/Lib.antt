@@ -1,0 +1,5 @@
+pub mod FieldJudges
+pub mod DateJudges
+pub mod ColumnLemmas
+pub mod FieldLaws
+pub mod SetCases
