@@ -6,8 +6,8 @@ use Rattle.std.proofs.lemmas.List.{take_all}
 use Rattle.std.proofs.lemmas.List.Folds.{list_all-append}
 use Rattle.std.specs.Prelude.{not}
 use Rattle.flk_text.specs.Lines.{is_byte, without_cr}
-use Rattle.flk_cfg.specs.declared.config.Form.{Form}
-use Rattle.flk_cfg.specs.declared.config.Form.TheVariants.{Ascii}
+use Rattle.flk_field.specs.declared.form.Form.{Form}
+use Rattle.flk_field.specs.declared.form.Form.TheVariants.{Ascii}
 use Rattle.flk_dat.specs.Records.{DataRecord, Layout}
 use Rattle.flk_dat.specs.AsciiRecords.{longest_line, IsLine, LineFault, IsBlank}
 use Rattle.flk_dat.specs.DataFile.{line_at, StandsInFront, IsRecord, FaultInFront, RecordFault, MayFollow}

@@ -5,8 +5,8 @@ use Rattle.std.proofs.Math.Seq.{drop-append_seam}
 use Rattle.std.proofs.Math.Nat.{mul-le-mul_right}
 use Rattle.byteorder.specs.Endian.{little_number}
 use Rattle.byteorder.specs.Numbers.{little_from-append}
-use Rattle.flk_cfg.specs.declared.config.Form.{Form}
-use Rattle.flk_cfg.specs.declared.config.Form.TheVariants.{Ascii, Binary}
+use Rattle.flk_field.specs.declared.form.Form.{Form}
+use Rattle.flk_field.specs.declared.form.Form.TheVariants.{Ascii, Binary}
 use Rattle.flk_dat.specs.Records.{DataRecord, Layout, Follows, IsPresent}
 use Rattle.flk_dat.specs.BinaryRecords.{value_width, signed_value, record_size, number_of, stamp_of, value_of, word_of, IsBinary, WholeFault, BinaryFault}
 use Rattle.flk_dat.specs.DataFile.{StandsInFront, IsRecord, FaultInFront, RecordFault, MayFollow}

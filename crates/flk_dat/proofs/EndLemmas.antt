@@ -6,8 +6,8 @@ use Rattle.std.proofs.lemmas.Grind.{common_steps}
 use Rattle.std.proofs.lemmas.List.Folds.{list_all-append}
 use Rattle.flk_text.specs.Lines.{is_byte, without_cr}
 use Rattle.flk_text.specs.Tail.{is_tail_byte}
-use Rattle.flk_cfg.specs.declared.config.Form.{Form}
-use Rattle.flk_cfg.specs.declared.config.Form.TheVariants.{Ascii}
+use Rattle.flk_field.specs.declared.form.Form.{Form}
+use Rattle.flk_field.specs.declared.form.Form.TheVariants.{Ascii}
 use Rattle.flk_dat.specs.Records.{DataRecord, Rows, Layout, Follows, last_number, IsPresent, ArePresent}
 use Rattle.flk_dat.specs.AsciiRecords.{IsLine, LineFault}
 use Rattle.flk_dat.specs.DataFile.{after_records, IsRecord, RecordFault, MayFollow, AreFirst, IsAccepted, IsFaultAfter}

@@ -4,11 +4,11 @@ use Rattle.std.proofs.lemmas.Int.{ints}
 use Rattle.std.proofs.lemmas.Bool.{cases_lt, cases_Bool, eqb-true, eq-eqb, true≢false}
 use Rattle.flk_text.specs.WholeNumber.{IsWholeValue}
 use Rattle.flk_text.proofs.TextCases.{whole_cases}
-use Rattle.flk_cfg.specs.Values.{IsWholeFrom}
-use Rattle.flk_cfg.proofs.FieldJudges.{whole_form, whole_outside, whole_far}
-use Rattle.flk_cfg.proofs.SetCases.{bit_from}
+use Rattle.flk_field.specs.Values.{IsWholeFrom}
+use Rattle.flk_field.proofs.FieldJudges.{whole_form, whole_outside, whole_far}
+use Rattle.flk_field.proofs.SetCases.{bit_from}
 use Rattle.flk_text.proofs.DecimalLaws.{whole_once}
-use Rattle.flk_cfg.specs.declared.config.Form.TheVariants.{Ascii}
+use Rattle.flk_field.specs.declared.form.Form.TheVariants.{Ascii}
 use Rattle.flk_dat.specs.Records.{Follows, missing_value}
 use Rattle.flk_dat.specs.SampleFields.{most_number, most_stamp, least_sample, most_sample, IsSample, IsThere, Set, Number, Stamp, Analog, Digital, IsIn, Refuses, NoWhole, NoSample}
 use Rattle.flk_dat.specs.AsciiRecords.{IsFirstOut}

@@ -7,9 +7,9 @@ use Rattle.std.proofs.Math.Seq.{get_or-append_seam}
 use Rattle.flk_text.specs.Lines.{is_byte}
 use Rattle.flk_text.proofs.TextCases.{tail_cases}
 use Rattle.flk_text.specs.Fields.{fields}
-use Rattle.flk_cfg.specs.Values.{IsBit}
-use Rattle.flk_cfg.specs.declared.config.Form.{Form}
-use Rattle.flk_cfg.specs.declared.config.Form.TheVariants.{Ascii, Binary}
+use Rattle.flk_field.specs.Values.{IsBit}
+use Rattle.flk_field.specs.declared.form.Form.{Form}
+use Rattle.flk_field.specs.declared.form.Form.TheVariants.{Ascii, Binary}
 use Rattle.flk_dat.specs.Records.{DataRecord, Layout, Follows, last_number, IsPresent, ArePresent, missing_value}
 use Rattle.flk_dat.specs.SampleFields.{Set, Number, Stamp, Analog, Digital, IsIn, IsNumber, IsStamp, IsSample, IsThere}
 use Rattle.flk_dat.specs.AsciiRecords.{longest_line, field_total, column, IsRow, IsLine, RowFault, LineFault, IsBlank}

@@ -5,8 +5,8 @@ use Rattle.std.proofs.lemmas.List.{take_more}
 use Rattle.std.proofs.lemmas.List.Sums.{passes_at_first}
 use Rattle.std.proofs.Math.Seq.{split_at}
 use Rattle.flk_text.specs.Lines.{without_cr}
-use Rattle.flk_cfg.specs.declared.config.Form.{Form}
-use Rattle.flk_cfg.specs.declared.config.Form.TheVariants.{Ascii}
+use Rattle.flk_field.specs.declared.form.Form.{Form}
+use Rattle.flk_field.specs.declared.form.Form.TheVariants.{Ascii}
 use Rattle.flk_dat.specs.Records.{DataRecord, Follows, IsPresent}
 use Rattle.flk_dat.specs.AsciiRecords.{IsLine, LineFault}
 use Rattle.flk_dat.specs.DataFile.{IsRecord, RecordFault, MayFollow}

@@ -8,11 +8,11 @@ use Rattle.flk_text.specs.Fields.{fields}
 use Rattle.flk_text.specs.Lines.{is_byte, without_cr}
 use Rattle.flk_text.proofs.FieldLemmas.{fields_count}
 use Rattle.flk_text.proofs.DecimalLaws.{whole_once}
-use Rattle.flk_cfg.specs.Values.{IsWholeFrom, IsBit}
-use Rattle.flk_cfg.specs.declared.config.Form.{Form}
-use Rattle.flk_cfg.specs.declared.config.Form.TheVariants.{Ascii, Binary}
-use Rattle.flk_cfg.proofs.FieldJudges.{whole_form}
-use Rattle.flk_cfg.proofs.FieldLaws.{whole_from_once, bit_once}
+use Rattle.flk_field.specs.Values.{IsWholeFrom, IsBit}
+use Rattle.flk_field.specs.declared.form.Form.{Form}
+use Rattle.flk_field.specs.declared.form.Form.TheVariants.{Ascii, Binary}
+use Rattle.flk_field.proofs.FieldJudges.{whole_form}
+use Rattle.flk_field.proofs.FieldLaws.{whole_from_once, bit_once}
 use Rattle.flk_dat.specs.Records.{DataRecord, Layout, Follows, IsPresent}
 use Rattle.flk_dat.specs.SampleFields.{most_number, most_stamp, IsStamp, IsSample, Set, Number, Stamp, Analog, Digital, IsIn, Refuses, NoWhole, NoSample}
 use Rattle.flk_dat.specs.AsciiRecords.{field_total, IsRow, IsLine, column, IsFirstOut, RowFault, LineFault, IsBlank}

@@ -2,7 +2,7 @@
 use Rattle.std.proofs.Common.{◌≡◌, ℕ, zero, suc, ◌+◌, ◌-◌, ◌<◌, ◌≤◌, List, [], ◌∷◌, length, get_or, drop, true, false, Bool, Option, ltb, eqb, refl, sym, ap, subst, ◌∙◌, arith, inl, inr, ℤ}
 use Rattle.std.proofs.lemmas.Bool.{lt-ltb, le-ltb, cases_lt}
 use Rattle.std.proofs.lemmas.List.{get_or-drop, drop-drop}
-use Rattle.flk_cfg.specs.Values.{IsBit}
+use Rattle.flk_field.specs.Values.{IsBit}
 use Rattle.flk_dat.specs.Records.{Follows}
 use Rattle.flk_dat.specs.SampleFields.{Set, Number, Stamp, Analog, Digital, IsIn, Refuses, IsNumber, IsStamp, IsSample, IsThere}
 use Rattle.flk_dat.specs.AsciiRecords.{column, IsFirstOut, field_total}

@@ -5,8 +5,8 @@ use Rattle.std.specs.Prelude.{not}
 use Rattle.std.proofs.lemmas.Bool.{cases_lt, and_from}
 use Rattle.std.proofs.lemmas.List.{length-replicate}
 use Rattle.flk_text.specs.Fields.{fields}
-use Rattle.flk_cfg.specs.declared.config.Form.{Form}
-use Rattle.flk_cfg.specs.declared.config.Form.TheVariants.{Ascii, Binary}
+use Rattle.flk_field.specs.declared.form.Form.{Form}
+use Rattle.flk_field.specs.declared.form.Form.TheVariants.{Ascii, Binary}
 use Rattle.flk_dat.specs.Records.{DataRecord, Layout, last_number}
 use Rattle.flk_dat.specs.SampleFields.{Set, Number, Stamp, Analog, Digital, Refuses, NoWhole, NoSample}
 use Rattle.flk_dat.specs.AsciiRecords.{longest_line, LineFault, RowFault}

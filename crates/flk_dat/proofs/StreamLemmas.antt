@@ -4,8 +4,8 @@ use Rattle.std.proofs.lemmas.Bool.{cases_Bool, ne_eqb}
 use Rattle.std.proofs.lemmas.List.{drop-drop}
 use Rattle.flk_text.specs.Lines.{after_line, tail_of}
 use Rattle.flk_cfg.specs.Places.{after_lines}
-use Rattle.flk_cfg.specs.declared.config.Form.{Form}
-use Rattle.flk_cfg.specs.declared.config.Form.TheVariants.{Ascii, Binary}
+use Rattle.flk_field.specs.declared.form.Form.{Form}
+use Rattle.flk_field.specs.declared.form.Form.TheVariants.{Ascii, Binary}
 use Rattle.flk_dat.specs.Records.{DataRecord, Layout, Follows, last_number, IsPresent}
 use Rattle.flk_dat.specs.BinaryRecords.{record_size}
 use Rattle.flk_dat.specs.DataFile.{after_rows, after_of, after_records, IsRecord, RecordFault, EndFault, MayFollow, AreFirst, IsAccepted, IsFaultAfter}

@@ -3,7 +3,7 @@ use Rattle.std.proofs.Common.{◌≡◌, ℕ, ◌<◌, ◌≤◌, List, [], ◌�
 use Rattle.std.proofs.lemmas.List.{take_all}
 use Rattle.std.specs.List.{count_by}
 use Rattle.flk_text.specs.Lines.{is_byte}
-use Rattle.flk_cfg.specs.declared.config.Form.{Form}
+use Rattle.flk_field.specs.declared.form.Form.{Form}
 use Rattle.flk_dat.specs.Records.{DataRecord, Rows, Layout, Follows, IsPresent}
 use Rattle.flk_dat.specs.DataFile.{IsRecord, RecordFault, EndFault, MayFollow, IsAccepted, IsFaultAfter}
 use Rattle.flk_dat.specs.Streams.{IsPartOf, HasGiven, added}

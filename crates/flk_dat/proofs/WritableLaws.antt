@@ -9,8 +9,8 @@ use Rattle.std.proofs.Math.Nat.{pow-succ'}
 use borrow.Author.Gap.{read_sfits}
 use Rattle.flk_text.specs.Fields.{fields}
 use Rattle.byteorder.specs.Endian.{little_from, little_number}
-use Rattle.flk_cfg.specs.declared.config.Form.{Form}
-use Rattle.flk_cfg.specs.declared.config.Form.TheVariants.{Ascii, Binary}
+use Rattle.flk_field.specs.declared.form.Form.{Form}
+use Rattle.flk_field.specs.declared.form.Form.TheVariants.{Ascii, Binary}
 use Rattle.flk_dat.specs.Records.{DataRecord, Layout, record_at}
 use Rattle.flk_dat.specs.SampleFields.{IsSampleValue, IsStamp}
 use Rattle.flk_dat.specs.AsciiRecords.{IsLine}

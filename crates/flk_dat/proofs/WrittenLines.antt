@@ -14,8 +14,8 @@ use Rattle.flk_text.specs.Lines.{Lacks, without_cr}
 use Rattle.flk_text.specs.Fields.{fields, joined_fields}
 use Rattle.flk_text.proofs.PlainTextLemmas.{decimal_writes}
 use Rattle.flk_text.proofs.WrittenLaws.{fields_joined, lacks-append, cr_dropped}
-use Rattle.flk_cfg.specs.Values.{IsBit}
-use Rattle.flk_cfg.specs.declared.config.Form.TheVariants.{Ascii}
+use Rattle.flk_field.specs.Values.{IsBit}
+use Rattle.flk_field.specs.declared.form.Form.TheVariants.{Ascii}
 use Rattle.flk_cfg.proofs.WrittenFields.{IsFree, free_cell, free-append, free_decimal, whole_is}
 use Rattle.flk_cfg.proofs.WrittenLines.{AreCells, cell_at, joined_lacks}
 use Rattle.flk_dat.specs.Records.{DataRecord, Layout, HasWidth}

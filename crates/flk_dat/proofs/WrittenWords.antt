@@ -11,8 +11,8 @@ use Rattle.std.proofs.lemmas.List.{get_or-take, get_or-drop}
 use Rattle.std.proofs.lemmas.List.FromFn.{get_or-range_with_len, length-range_with_len}
 use Rattle.byteorder.specs.Endian.{little_bytes, little_number}
 use Rattle.byteorder.specs.Numbers.{little_number-reads_back, length-bytes_low_first}
-use Rattle.flk_cfg.specs.declared.config.Form.{Form}
-use Rattle.flk_cfg.specs.declared.config.Form.TheVariants.{Binary}
+use Rattle.flk_field.specs.declared.form.Form.{Form}
+use Rattle.flk_field.specs.declared.form.Form.TheVariants.{Binary}
 use Rattle.flk_cfg.proofs.WrittenFields.{bit_small}
 use Rattle.flk_dat.specs.Records.{DataRecord, Layout, HasWidth}
 use Rattle.flk_dat.specs.BinaryRecords.{record_size, number_of, stamp_of, value_of, word_of, bit_of, IsBinary}

@@ -3,7 +3,7 @@ use Rattle.std.specs.Prelude.{◌≡◌, ◌≢◌, ℕ, ◌+◌, ◌-◌, ◌<�
 use Rattle.std.specs.List.{list_all}
 use Rattle.flk_text.specs.Lines.{is_byte}
 use Rattle.flk_text.specs.Fields.{fields}
-use Rattle.flk_cfg.specs.Values.{IsBit}
+use Rattle.flk_field.specs.Values.{IsBit}
 use Rattle.flk_dat.specs.Records.{DataRecord}
 use Rattle.flk_dat.specs.SampleFields.{Set, Number, Stamp, Analog, Digital, IsIn, Refuses, IsNumber, IsStamp, IsSample}
 use Rattle.flk_dat.specs.declared.kind.Kind.{Kind}

@@ -4,8 +4,8 @@ use Rattle.std.specs.Prelude.{◌≡◌, ℕ, ◌+◌, ◌-◌, ◌*◌, ◌<◌
 use Rattle.flk_text.specs.Lines.{line_of, last_line_of, tail_of}
 use Rattle.flk_text.specs.Tail.{IsTail}
 use Rattle.flk_cfg.specs.Places.{after_lines}
-use Rattle.flk_cfg.specs.declared.config.Form.{Form}
-use Rattle.flk_cfg.specs.declared.config.Form.TheVariants.{Ascii, Binary}
+use Rattle.flk_field.specs.declared.form.Form.{Form}
+use Rattle.flk_field.specs.declared.form.Form.TheVariants.{Ascii, Binary}
 use Rattle.flk_dat.specs.Records.{DataRecord, record_at, Layout, AreConsecutive, last_number, ArePresent}
 use Rattle.flk_dat.specs.AsciiRecords.{IsLine, LineFault, IsBlank}
 use Rattle.flk_dat.specs.BinaryRecords.{record_size, IsBinary, BinaryFault}

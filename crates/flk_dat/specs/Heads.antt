@@ -2,8 +2,8 @@
 -- private functions cite this file.
 use Rattle.std.specs.Prelude.{◌≡◌, ℕ, pos, false, cond, eqb, List, [], ◌∷◌, ◌++◌, length, Option}
 use Rattle.flk_text.specs.Lines.{without_cr}
-use Rattle.flk_cfg.specs.declared.config.Form.{Form}
-use Rattle.flk_cfg.specs.declared.config.Form.TheVariants.{Ascii, Binary}
+use Rattle.flk_field.specs.declared.form.Form.{Form}
+use Rattle.flk_field.specs.declared.form.Form.TheVariants.{Ascii, Binary}
 use Rattle.flk_dat.specs.Records.{DataRecord, Rows, Follows, IsPresent}
 use Rattle.flk_dat.specs.SampleFields.{Set, Number, Stamp}
 use Rattle.flk_dat.specs.AsciiRecords.{IsLine, LineFault}

@@ -2,8 +2,8 @@
 use Rattle.std.specs.Prelude.{◌≡◌, ◌≢◌, ℕ, ◌+◌, ◌<◌, ◌≤◌, ℤ, pos, negsuc, Bool, true, false, eqb, List, [], ◌∷◌, length, map, slice_index_or, All, Option, Some, None}
 use Rattle.std.specs.List.{list_any, range_with_len}
 use Rattle.flk_cfg.specs.declared.config.Config.{Config}
-use Rattle.flk_cfg.specs.declared.config.Form.{Form}
-use Rattle.flk_cfg.specs.declared.config.Form.TheVariants.{Ascii, Binary}
+use Rattle.flk_field.specs.declared.form.Form.{Form}
+use Rattle.flk_field.specs.declared.form.Form.TheVariants.{Ascii, Binary}
 
 -- a record: a sample number, a time stamp or none, and the values of the analog and the digital channels, each in their
 -- order

@@ -2,8 +2,8 @@
 -- isn't in its set. What a whole number is stands in the crate of COMTRADE text.
 use Rattle.std.specs.Prelude.{◌≡◌, ◌≢◌, ℕ, ◌⊎◌, Bool, true, List, [], ℤ, pos, negsuc, ◌≤ℤ◌, Option, Some, None}
 use Rattle.flk_text.specs.WholeNumber.{IsWholeValue, IsWholeForm}
-use Rattle.flk_cfg.specs.Values.{IsWholeFrom, IsBit}
-use Rattle.flk_cfg.specs.declared.config.Form.TheVariants.{Ascii}
+use Rattle.flk_field.specs.Values.{IsWholeFrom, IsBit}
+use Rattle.flk_field.specs.declared.form.Form.TheVariants.{Ascii}
 use Rattle.flk_dat.specs.Records.{Follows, missing_value}
 use Rattle.flk_dat.specs.declared.kind.Kind.{Kind}
 use Rattle.flk_dat.specs.declared.kind.Kind.TheVariants as kinds

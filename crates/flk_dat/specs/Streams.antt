@@ -2,8 +2,8 @@
 use Rattle.std.specs.Prelude.{◌≡◌, ℕ, ◌+◌, ◌<◌, ◌≤◌, ◌⊎◌, Bool, true, cond, not, eqb, List, [], ◌∷◌, ◌++◌, length, drop, slice_index}
 use Rattle.std.specs.List.{list_all}
 use Rattle.flk_text.specs.Lines.{is_byte, ends_last_line}
-use Rattle.flk_cfg.specs.declared.config.Form.{Form}
-use Rattle.flk_cfg.specs.declared.config.Form.TheVariants.{Ascii, Binary}
+use Rattle.flk_field.specs.declared.form.Form.{Form}
+use Rattle.flk_field.specs.declared.form.Form.TheVariants.{Ascii, Binary}
 use Rattle.flk_dat.specs.Kinds.{data_kind_number}
 use Rattle.flk_dat.specs.Records.{DataRecord, Rows, Layout, ArePresent}
 use Rattle.flk_dat.specs.AsciiRecords.{longest_line}

@@ -2,7 +2,7 @@
 
 ghost use Rattle.std.specs.Prelude.{◌≡◌, ◌≢◌, ◌<◌, ◌≤◌, [], ◌∷◌, ◌++◌, length, map, slice_index_or, IfOk, MatchResult, pos, false};
 ghost use Rattle.flk_cfg.specs.Valid.{IsValid};
-ghost use Rattle.flk_cfg.specs.declared.config.Form.TheVariants as forms;
+ghost use Rattle.flk_field.specs.declared.form.Form.TheVariants as forms;
 ghost use Rattle.flk_dat.specs.Records.{IsBlockFor, AreRows, HasWidth, record_at};
 ghost use Rattle.flk_dat.specs.BinaryRecords.{record_size};
 ghost use Rattle.flk_dat.specs.Heads.{Gains, FaultOf, HasColumns};

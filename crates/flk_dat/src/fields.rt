@@ -1,7 +1,7 @@
 //! Single fields of an ASCII record against their sets.
 
 ghost use Rattle.std.specs.Prelude.{◌<◌, ◌≤◌, ◌^◌, ◌↔◌, IsTrue, MatchResult};
-ghost use Rattle.flk_cfg.specs.Values.{IsWholeFrom, IsBit};
+ghost use Rattle.flk_field.specs.Values.{IsWholeFrom, IsBit};
 ghost use Rattle.flk_dat.specs.Records.{Follows};
 ghost use Rattle.flk_dat.specs.SampleFields.{IsNumber, IsStamp, IsSample, IsThere, Number, Stamp, Analog, Digital, NoWhole, NoSample, Refuses};
 

@@ -1,7 +1,7 @@
 //! Records whose first bytes may have come in earlier pieces.
 
 ghost use Rattle.std.specs.Prelude.{◌≡◌, ◌≢◌, ◌+◌, ◌<◌, ◌++◌, [], length, OnOk, MatchResult};
-ghost use Rattle.flk_cfg.specs.declared.config.Form.TheVariants as forms;
+ghost use Rattle.flk_field.specs.declared.form.Form.TheVariants as forms;
 ghost use Rattle.flk_dat.specs.BinaryRecords.{record_size};
 ghost use Rattle.flk_dat.specs.Heads.{Gains, FaultOf, HasColumns};
 

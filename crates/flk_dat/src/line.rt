@@ -4,14 +4,14 @@ ghost use Rattle.std.specs.Prelude.{◌≡◌, ◌+◌, ◌<◌, ◌≤◌, ◌�
 ghost use Rattle.std.specs.List.{list_all, position_or_len};
 ghost use Rattle.flk_text.specs.Lines.{is_byte, without_cr as without_cr_of};
 ghost use Rattle.flk_text.specs.Fields.{fields as fields_of};
-ghost use Rattle.flk_cfg.specs.Values.{IsBit};
+ghost use Rattle.flk_field.specs.Values.{IsBit};
 ghost use Rattle.flk_dat.specs.Records.{Follows, IsPresent};
 ghost use Rattle.flk_dat.specs.Blocks.{row_in, HavePlace, ChangesPlace, ChangesRow};
 ghost use Rattle.flk_dat.specs.SampleFields.{IsNumber, IsStamp, IsSample, IsThere, Analog, Digital};
 ghost use Rattle.flk_dat.specs.AsciiRecords.{IsRow, IsLine, LineFault, IsFirstOut, column, field_total};
 ghost use Rattle.flk_dat.specs.Streams.{ends_line};
 ghost use Rattle.flk_dat.specs.Heads.{headed, head_column, HasRow};
-ghost use Rattle.flk_cfg.specs.declared.config.Form.TheVariants as forms;
+ghost use Rattle.flk_field.specs.declared.form.Form.TheVariants as forms;
 
 use crate::channels::Channels;
 use crate::column::Column;

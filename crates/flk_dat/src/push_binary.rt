@@ -4,7 +4,7 @@ ghost use Rattle.std.specs.Prelude.{◌≡◌, ◌+◌, ◌*◌, ◌/◌, ◌<�
 ghost use Rattle.std.specs.List.{flat_map, range_with_len};
 ghost use Rattle.byteorder.specs.Endian.{little_bytes};
 ghost use Rattle.flk_dat.specs.Records.{record_at, HasWidth};
-ghost use Rattle.flk_cfg.specs.declared.config.Form.TheVariants.{Binary};
+ghost use Rattle.flk_field.specs.declared.form.Form.TheVariants.{Binary};
 ghost use Rattle.flk_dat.specs.BinaryRecords.{record_size as size_of_record};
 ghost use Rattle.flk_dat.specs.Written.{IsWordStamp, IsBinaryRecord, stamp_number, value_bytes, bits_number, word_bytes, written_binary};
 

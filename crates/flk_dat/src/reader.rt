@@ -8,7 +8,7 @@ ghost use Rattle.flk_dat.specs.BinaryRecords.{record_size};
 ghost use Rattle.flk_dat.specs.Kinds.{data_kind_number};
 ghost use Rattle.flk_dat.specs.Streams.{HasFault, EndsInFault, EndsRecord, added, Grows};
 ghost use Rattle.flk_dat.specs.declared.kind.DatFault.{DatFault as FaultView};
-ghost use Rattle.flk_cfg.specs.declared.config.Form.TheVariants as forms;
+ghost use Rattle.flk_field.specs.declared.form.Form.TheVariants as forms;
 
 use crate::block::Block;
 use crate::channels::Channels;

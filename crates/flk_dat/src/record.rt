@@ -1,7 +1,7 @@
 //! A record of either form, read into a row of the columns.
 
 ghost use Rattle.std.specs.Prelude.{◌≡◌, ◌≢◌, ◌≤◌, length, IfOk, IfErr};
-ghost use Rattle.flk_cfg.specs.declared.config.Form.TheVariants as forms;
+ghost use Rattle.flk_field.specs.declared.form.Form.TheVariants as forms;
 ghost use Rattle.flk_dat.specs.BinaryRecords.{record_size};
 ghost use Rattle.flk_dat.specs.Blocks.{ChangesRow};
 ghost use Rattle.flk_dat.specs.Heads.{headed, HasRow, IsGood, FaultOf};

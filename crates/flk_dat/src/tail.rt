@@ -4,7 +4,7 @@ ghost use Rattle.std.specs.Prelude.{◌≡◌, ℕ, ◌+◌, ◌≤◌, ◌++◌
 ghost use Rattle.std.specs.List.{count_by};
 ghost use Rattle.flk_text.specs.Lines.{is_byte};
 ghost use Rattle.flk_dat.specs.DataFile.{MayFollow};
-ghost use Rattle.flk_cfg.specs.declared.config.Form.TheVariants as forms;
+ghost use Rattle.flk_field.specs.declared.form.Form.TheVariants as forms;
 
 use flk_text::tail_marks;
 

@@ -13,7 +13,7 @@ use Rattle.toml.specs.Data.{Data, string, integer, array, Members, as_str, as_in
 use Rattle.toml.specs.Parse.{parse_document}
 use Rattle.flk_num.specs.declared.lamp.Lamp.{Lamp}
 use Rattle.flk_num.specs.declared.lamp.Lamp.TheVariants.{L230, L120}
-use Rattle.flk_cfg.proofs.SetCases.{same_text}
+use Rattle.flk_field.proofs.SetCases.{same_text}
 use Rattle.flk_job.specs.Table.{key_number, integer_items, IsOfType, lamp_name, IsIntegerFrom, IsDmax, AreChannels, IsIn, value_of, nominal_of, are_known}
 use Rattle.flk_job.specs.Job.{longest_job, data_of, HasJob, IsJob, IsDocument, IsGood, KeyFault, AreGoodBefore, IsFirstKeyFault, IsFirstFault}
 use Rattle.flk_job.specs.Reading.{integers}

@@ -10,7 +10,7 @@ use Rattle.flk_num.specs.declared.stop.Stop.{Stop}
 use Rattle.flk_num.specs.declared.stop.Stop.TheVariants as stop
 use Rattle.flk_job.specs.Table.{key_number, key_name, default_of, integer_items, IsOfType, lamp_name, IsIntegerFrom, IsDmax, AreChannels, IsIn, value_of, natural_in, nominal_of, are_known}
 use Rattle.flk_job.specs.Job.{data_of, HasJob, IsDocument, AreInSets, IsGood, KeyFault, AreGoodBefore, IsFirstKeyFault, IsFirstFault}
-use Rattle.flk_job.specs.Reading.{StopIs, NoLamp, NoIntegerFrom, NoDmax, NoChannels, integers}
+use Rattle.flk_job.specs.Reading.{NoLamp, NoIntegerFrom, NoDmax, NoChannels, integers}
 use Rattle.flk_job.specs.declared.key.Key.{Key}
 use Rattle.flk_job.specs.declared.key.Key.TheVariants as keys
 use Rattle.flk_job.specs.declared.kind.Kind.{Kind}
@@ -150,19 +150,6 @@ channels_fault ms kinds.Length h = h
 pub channels_good : (ms : Members) (ns : List ℕ) → get_member (key_name keys.Channels) ms ≡ Some (array (integer_items (map (λ n. pos n) ns))) → AreChannels ns → IsGood ms keys.Channels
 channels_good ms ns e is =
     (array (integer_items (map (λ n. pos n) ns)), value_given ms keys.Channels (array (integer_items (map (λ n. pos n) ns))) e, (ns, refl, is))
-
--- ---- the exits
-
--- the exit of a `?` whose fault is passed on
-pub stop_exit : {T : Type 0} (r : Result T (Stop Fault)) (P : T → Type 0) (Q : Fault → Type 0) (s : Stop Fault) → IsErrAnd r (λ y. y ≡ s) → StopIs Q s
-    → MatchResult r P (λ x. StopIs Q x)
-stop_exit {T} r P Q s e q =
-    let p = err_from_is_err_and r e in
-    subst (λ (x : Result T (Stop Fault)). MatchResult x P (λ y. StopIs Q y)) (sym p.1) (subst (λ (y : Stop Fault). StopIs Q y) (sym p.2) q)
-
-pub stop_weaker : (P Q : Fault → Type 0) (s : Stop Fault) → StopIs P s → ((f : Fault) → P f → Q f) → StopIs Q s
-stop_weaker P Q (stop.Fault f) p h = h f p
-stop_weaker P Q stop.OutOfMemory p h = tt
 
 -- the first fault of a key is the first fault of the bytes
 pub fault_of_keys : (bytes : List ℕ) (ms : Members) → IsDocument bytes ms → are_known ms ≡ true → (number : ℕ) (kind : Kind) → IsFirstKeyFault ms number kind → IsFirstFault bytes number kind

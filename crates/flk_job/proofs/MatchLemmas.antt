@@ -8,7 +8,7 @@ use Rattle.flk_num.specs.Rate.{samples_per_second, most_records}
 use Rattle.flk_num.specs.declared.rate.Rate.{Rate}
 use Rattle.flk_num.specs.declared.rate.Rate.TheVariants.{R2400, R4800}
 use Rattle.flk_cfg.specs.declared.config.Config.{Config}
-use Rattle.flk_cfg.proofs.SetCases.{is_whole}
+use Rattle.flk_field.proofs.SetCases.{is_whole}
 use Rattle.flk_job.specs.declared.job.Job.{Job}
 use Rattle.flk_scale.specs.declared.fault.MatchFault.{MatchFault}
 use Rattle.flk_scale.specs.declared.fault.MatchFault.TheVariants as faults

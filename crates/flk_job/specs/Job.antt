@@ -99,7 +99,8 @@ pub record IsFaultOfKeys (bytes : List ℕ) (number : ℕ) (kind : Kind) : Type 
 -- the first fault: of the length, of the document, of its keys as such, or of a key's value
 abbrev pub IsFirstFault : List ℕ → (number : ℕ) → Kind → Type 0
 IsFirstFault bytes number kinds.Length = (number ≡ 0) × (longest_job < length bytes)
-IsFirstFault bytes number kinds.Toml = (number ≡ 0) × (length bytes ≤ longest_job) × ((ms : Members) → ¬ IsDocument bytes ms)
+IsFirstFault bytes number kinds.Toml =
+    (number ≡ 0) × (length bytes ≤ longest_job) × ((ms : Members) → ¬ IsDocument bytes ms)
 IsFirstFault bytes number kinds.Unknown = (number ≡ 0) × (ms : Members) × IsDocument bytes ms × (are_known ms ≡ false)
 IsFirstFault bytes number kinds.Absent = IsFaultOfKeys bytes number kinds.Absent
 IsFirstFault bytes number kinds.OtherType = IsFaultOfKeys bytes number kinds.OtherType

@@ -11,11 +11,6 @@ use Rattle.flk_job.specs.declared.kind.Fault.{Fault}
 use Rattle.flk_job.specs.declared.kind.Kind.{Kind}
 use Rattle.flk_job.specs.declared.kind.Kind.TheVariants as kinds
 
--- the fault, or want of memory
-abbrev pub StopIs : (Fault → Type 0) → Stop Fault → Type 0
-StopIs P (stop.Fault f) = P f
-StopIs P stop.OutOfMemory = Unit {0}
-
 abbrev pub IsKeyFault : Members → Fault → Type 0
 IsKeyFault ms f = IsFirstKeyFault ms f.key f.kind
 
@@ -35,7 +30,8 @@ NoInteger v _ = ⊥
 abbrev pub NoIntegerFrom : (least most : ℕ) → Option Data → Kind → Type 0
 NoIntegerFrom least most v kinds.Absent = v ≡ None
 NoIntegerFrom least most v kinds.OtherType = (d : Data) × (v ≡ Some d) × ((z : ℤ) → d ≢ integer z)
-NoIntegerFrom least most v kinds.Range = (z : ℤ) × (v ≡ Some (integer z)) × ((n : ℕ) → z ≡ pos n → least ≤ n → ¬ (n ≤ most))
+NoIntegerFrom least most v kinds.Range =
+    (z : ℤ) × (v ≡ Some (integer z)) × ((n : ℕ) → z ≡ pos n → least ≤ n → ¬ (n ≤ most))
 NoIntegerFrom least most v _ = ⊥
 
 abbrev pub NoDmax : Option Data → Kind → Type 0
@@ -47,7 +43,9 @@ NoDmax v _ = ⊥
 abbrev pub NoChannels : Option Data → Kind → Type 0
 NoChannels v kinds.Absent = v ≡ None
 NoChannels v kinds.OtherType = (d : Data) × (v ≡ Some d) × ((zs : List ℤ) → d ≢ array (integer_items zs))
-NoChannels v kinds.Range = (zs : List ℤ) × (v ≡ Some (array (integer_items zs))) × ((ns : List ℕ) → map (λ n. pos n) ns ≡ zs → ¬ AreChannels ns)
+NoChannels v kinds.Range =
+    (zs : List ℤ) × (v ≡ Some (array (integer_items zs)))
+    × ((ns : List ℕ) → map (λ n. pos n) ns ≡ zs → ¬ AreChannels ns)
 NoChannels v _ = ⊥
 
 -- the integers of an array, where each item is one

@@ -99,8 +99,10 @@ nominal_of ms = natural_in (value_of ms keys.Nominal)
 
 abbrev pub is_key_name : List ℕ → Bool
 is_key_name name =
-    bytes_eq name (key_name keys.Lamp) || (bytes_eq name (key_name keys.Nominal) || (bytes_eq name (key_name keys.Uncertainty) || (bytes_eq name (key_name keys.Channels)
-    || (bytes_eq name (key_name keys.Dmax) || (bytes_eq name (key_name keys.RunIn) || bytes_eq name (key_name keys.Interval))))))
+    bytes_eq name (key_name keys.Lamp) || (bytes_eq name (key_name keys.Nominal)
+    || (bytes_eq name (key_name keys.Uncertainty) || (bytes_eq name (key_name keys.Channels)
+    || (bytes_eq name (key_name keys.Dmax) || (bytes_eq name (key_name keys.RunIn)
+    || bytes_eq name (key_name keys.Interval))))))
 
 -- each key of the document is one of the table
 abbrev pub are_known : Members → Bool

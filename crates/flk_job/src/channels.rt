@@ -5,7 +5,8 @@ ghost use Rattle.std.specs.List.{Contains};
 ghost use Rattle.toml.specs.Data.{array, get_member};
 ghost use Rattle.toml.specs.View.{items_view, table_view};
 ghost use Rattle.flk_job.specs.Table.{key_number, key_name, integer_items, AreChannels};
-ghost use Rattle.flk_job.specs.Reading.{StopIs, integers, NoChannels};
+ghost use Rattle.flk_job.specs.Reading.{integers, NoChannels};
+ghost use Rattle.flk_num.specs.Stop.{StopIs};
 
 use crate::key::Key;
 use crate::kind::{Fault, Kind};
@@ -73,8 +74,11 @@ fn channels_of(alloc: Global, numbers: &[i64]) -> Result<Option<List<u16>>, Allo
 
 /// The channels at a key that has no default.
 pub fn channels_in(alloc: Global, table: &Table, key: Key) -> Result<List<u16>, Stop<Fault>>
-    ensures { MatchResult result (λ cs. (get_member (key_name key) (table_view table.now) ≡ Some (array (integer_items (map (λ n. pos n) cs)))) × AreChannels cs)
-        (λ s. StopIs (λ f. (f.key ≡ key_number key) × NoChannels (get_member (key_name key) (table_view table.now)) f.kind) s) }
+    ensures { MatchResult result
+        (λ cs. (get_member (key_name key) (table_view table.now) ≡ Some (array (integer_items (map (λ n. pos n) cs))))
+        × AreChannels cs)
+        (λ s. StopIs
+        (λ f. (f.key ≡ key_number key) × NoChannels (get_member (key_name key) (table_view table.now)) f.kind) s) }
 {
     let Some(value) = value_at(table, key) else {
         return Err(Stop::Fault(fault(key, Kind::Absent)));

@@ -4,7 +4,7 @@ ghost use Rattle.std.specs.Prelude.{◌≡◌, MatchResult, true};
 ghost use Rattle.toml.specs.View.{table_view};
 ghost use Rattle.flk_job.specs.Table.{are_known};
 ghost use Rattle.flk_job.specs.Job.{IsDocument, IsFirstFault};
-ghost use Rattle.flk_job.specs.Reading.{StopIs};
+ghost use Rattle.flk_num.specs.Stop.{StopIs};
 
 use crate::key::is_known;
 use crate::kind::{Fault, Kind};
@@ -29,7 +29,8 @@ fn keys_known(table: &Table) -> bool
 
 /// The table of a document whose keys are those of a job, or the fault of the document as a whole.
 pub fn table_of(alloc: Global, bytes: &[u8]) -> Result<Table, Stop<Fault>>
-    ensures { MatchResult result (λ t. IsDocument bytes.now (table_view t) × (are_known (table_view t) ≡ true)) (λ s. StopIs (λ f. IsFirstFault bytes.now f.key f.kind) s) }
+    ensures { MatchResult result (λ t. IsDocument bytes.now (table_view t) × (are_known (table_view t) ≡ true))
+        (λ s. StopIs (λ f. IsFirstFault bytes.now f.key f.kind) s) }
 {
     if bytes.len() > LONGEST_JOB {
         let kind = Kind::Length;

@@ -3,7 +3,8 @@
 ghost use Rattle.std.specs.Prelude.{MatchResult, IfOk};
 ghost use Rattle.toml.specs.View.{table_view};
 ghost use Rattle.flk_job.specs.Job.{HasJob, IsJob, IsFirstFault, IsJobAnswer, AreInSets};
-ghost use Rattle.flk_job.specs.Reading.{StopIs, IsKeyFault};
+ghost use Rattle.flk_job.specs.Reading.{IsKeyFault};
+ghost use Rattle.flk_num.specs.Stop.{StopIs};
 
 use crate::channels::channels_in;
 use crate::document::table_of;
@@ -34,7 +35,8 @@ pub struct Job {
 
 // The job of a document whose keys are those of a job, or the first fault of a key.
 fn job_of(alloc: Global, table: &Table) -> Result<Job, Stop<Fault>>
-    ensures { MatchResult result (λ j. HasJob (table_view table.now) j) (λ s. StopIs (λ f. IsKeyFault (table_view table.now) f) s) }
+    ensures { MatchResult result (λ j. HasJob (table_view table.now) j)
+        (λ s. StopIs (λ f. IsKeyFault (table_view table.now) f) s) }
 {
     let lamp = lamp_in(table, Key::Lamp)?;
     let nominal_mv = integer_in(table, Key::Nominal, 1000, 1_000_000)?;

@@ -42,7 +42,8 @@ fn lamp_of(name: &str) -> Option<Lamp>
 
 /// The lamp at a key that has no default.
 pub fn lamp_in(table: &Table, key: Key) -> Result<Lamp, Fault>
-    ensures value { IfOk result (λ lamp. get_member (key_name key) (table_view table.now) ≡ Some (string (lamp_name lamp))) }
+    ensures value { IfOk result
+        (λ lamp. get_member (key_name key) (table_view table.now) ≡ Some (string (lamp_name lamp))) }
     ensures key { IfErr result (λ f. f.key ≡ key_number key) }
     ensures fault { IfErr result (λ f. NoLamp (get_member (key_name key) (table_view table.now)) f.kind) }
 {

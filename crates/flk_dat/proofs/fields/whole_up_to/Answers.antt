@@ -1,7 +1,7 @@
 use Rattle.std.proofs.Common.{refl, inr, Err}
 use Rattle.flk_text.specs.WholeNumber.{IsWholeAnswer}
 use Rattle.flk_text.specs.declared.decimals.NumFault.TheVariants.{Range}
-use Rattle.flk_cfg.proofs.FieldJudges.{whole_far}
+use Rattle.flk_field.proofs.FieldJudges.{whole_far}
 use Rattle.flk_dat.proofs.fields.whole_up_to.Goals as goal
 
 pub returns-in-Err-Range : goal.returns-in-Err-Range

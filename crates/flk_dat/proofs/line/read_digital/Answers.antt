@@ -1,6 +1,6 @@
 use Rattle.std.proofs.Common.{◌≡◌, ◌<◌, ℕ, List, [], get_or, set, length, refl, ap, subst, ◌∙◌, arith, false, Bool}
 use Rattle.std.proofs.lemmas.List.{get_or_read_under}
-use Rattle.flk_cfg.specs.Values.{IsBit}
+use Rattle.flk_field.specs.Values.{IsBit}
 use Rattle.flk_dat.specs.SampleFields.{Digital, Refuses}
 use Rattle.flk_dat.specs.Blocks.{row_in}
 use Rattle.flk_dat.proofs.ColumnLemmas.{put_changes, each_put, place_kept}

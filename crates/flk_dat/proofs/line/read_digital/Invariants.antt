@@ -1,5 +1,5 @@
 use Rattle.std.proofs.Common.{◌≡◌, ◌<◌, ℕ, [], false, drop, get_or}
-use Rattle.flk_cfg.specs.Values.{IsBit}
+use Rattle.flk_field.specs.Values.{IsBit}
 use Rattle.flk_dat.specs.Blocks.{row_in, ChangesPlace}
 use Rattle.flk_dat.proofs.line.read_digital.Given as goal
 

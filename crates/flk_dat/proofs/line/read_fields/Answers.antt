@@ -1,11 +1,11 @@
 use Rattle.std.proofs.Common.{◌≡◌, ◌+◌, ◌<◌, ◌≤◌, ℕ, ℤ, List, [], get_or, length, drop, sym, ap, subst, ◌∙◌, arith, false, Bool, pos, inl, inr, Option}
 use Rattle.std.proofs.lemmas.List.{get_or-drop, get_or_past, drop-drop}
 use Rattle.std.proofs.lemmas.Bool.{cases_lt, true≢false}
-use Rattle.flk_cfg.specs.Values.{IsBit}
+use Rattle.flk_field.specs.Values.{IsBit}
 use Rattle.flk_dat.specs.Records.{Follows}
 use Rattle.flk_dat.specs.SampleFields.{Analog, Digital, IsSample, IsNumber, IsStamp}
 use Rattle.flk_dat.specs.AsciiRecords.{column, field_total, IsFirstOut}
-use Rattle.flk_cfg.proofs.Steps.{err_exit}
+use Rattle.flk_num.proofs.StopLemmas.{err_exit}
 use Rattle.flk_dat.specs.Blocks.{row_in}
 use Rattle.flk_dat.proofs.ColumnLemmas.{row_length}
 use Rattle.flk_dat.proofs.RowLemmas.{number_in, stamp_in, analog_in, head_are_in, analog_are_in, fault_in_head, fault_in_analog, fault_in_digital, AreIn}

@@ -3,7 +3,8 @@ use Rattle.flk_num.specs.declared.stop.Stop.TheVariants as stop
 use Rattle.flk_job.specs.Job.{HasJob}
 use Rattle.flk_job.specs.Reading.{IsKeyFault}
 use Rattle.flk_job.specs.declared.key.Key.TheVariants as keys
-use Rattle.flk_job.proofs.KeyLemmas.{before_first, before_nominal, before_uncertainty, before_channels, before_dmax, before_run_in, before_interval, lamp_fault, lamp_good, nominal_fault, nominal_good, uncertainty_fault, uncertainty_good, channels_fault, channels_good, dmax_fault, dmax_good, run_in_fault, run_in_good, interval_fault, stop_exit, stop_weaker}
+use Rattle.flk_job.proofs.KeyLemmas.{before_first, before_nominal, before_uncertainty, before_channels, before_dmax, before_run_in, before_interval, lamp_fault, lamp_good, nominal_fault, nominal_good, uncertainty_fault, uncertainty_good, channels_fault, channels_good, dmax_fault, dmax_good, run_in_fault, run_in_good, interval_fault}
+use Rattle.flk_num.proofs.StopLemmas.{stop_exit, stop_weaker}
 use Rattle.flk_job.proofs.job.job_of.Goals as goal
 
 pub returns-in_err-lamp : goal.returns-in_err-lamp

@@ -1,5 +1,5 @@
 use Rattle.std.proofs.Common.{◌≡◌, length, refl, ap, ◌∙◌, arith, rules}
-use Rattle.flk_cfg.proofs.Steps.{err_exit}
+use Rattle.flk_num.proofs.StopLemmas.{err_exit}
 use Rattle.flk_dat.specs.Records.{Rows}
 use Rattle.flk_dat.specs.Heads.{headed, FaultOf}
 use Rattle.flk_dat.specs.declared.columns.Columns.{Columns}

@@ -1,5 +1,5 @@
 use Rattle.std.proofs.Common.{◌≢◌, ◌<◌, refl, sym, ◌∙◌, arith}
-use Rattle.flk_cfg.specs.declared.config.Form.TheVariants.{Ascii}
+use Rattle.flk_field.specs.declared.form.Form.TheVariants.{Ascii}
 use Rattle.flk_dat.specs.States.{layout}
 use Rattle.flk_dat.specs.declared.kind.Kind.TheVariants as kinds
 use Rattle.flk_dat.specs.declared.kind.Fault.{Fault}

@@ -1,7 +1,7 @@
 use Rattle.std.proofs.Common.{◌≡◌, ℕ, true, false, List, refl, sym, ap, subst, ◌∙◌}
 use Rattle.std.specs.List.{list_all}
 use Rattle.flk_text.specs.Lines.{is_byte}
-use Rattle.flk_cfg.specs.declared.config.Form.{Form}
+use Rattle.flk_field.specs.declared.form.Form.{Form}
 use Rattle.flk_dat.specs.Records.{IsPresent}
 use Rattle.flk_dat.specs.Heads.{IsGood, FaultOf}
 use Rattle.flk_dat.specs.declared.kind.Kind.TheVariants as kinds

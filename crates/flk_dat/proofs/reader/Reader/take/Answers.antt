@@ -1,7 +1,7 @@
 use Rattle.std.proofs.Common.{◌<◌, ◌≤◌, length, arith}
 use Rattle.flk_dat.specs.Takings.{TakesAll, Stops}
 use Rattle.flk_dat.specs.declared.kind.Fault.{Fault}
-use Rattle.flk_cfg.proofs.Steps.{err_exit}
+use Rattle.flk_num.proofs.StopLemmas.{err_exit}
 use Rattle.flk_dat.proofs.LoopLemmas.{taking_then, stops_then, takes_all}
 use Rattle.flk_dat.proofs.reader.Reader.take.Goals as goal
 

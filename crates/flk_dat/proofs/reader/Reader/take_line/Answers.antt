@@ -1,5 +1,5 @@
 use Rattle.std.proofs.Common.{◌≡◌, ◌+◌, ◌<◌, ℕ, take, get_or, ◌++◌, length, refl, sym, subst, ◌∙◌, arith}
-use Rattle.flk_cfg.specs.declared.config.Form.{Form}
+use Rattle.flk_field.specs.declared.form.Form.{Form}
 use Rattle.flk_dat.specs.Records.{IsPresent}
 use Rattle.flk_dat.proofs.LineEnds.{mark_of}
 use Rattle.flk_dat.proofs.StateLemmas.{Given}
