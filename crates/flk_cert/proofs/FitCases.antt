@@ -22,10 +22,10 @@ use Rattle.flk_cert.proofs.GainLemmas.{fits_bounds, fits_bounds_first, fits_boun
 -- ---- what is decided
 
 -- it holds, or doesn't
-abbrev IsDecided : Type 0 → Type 0
+abbrev pub IsDecided : Type 0 → Type 0
 IsDecided A = A ⊎ (A → ⊥)
 
-both : {A B : Type 0} → IsDecided A → IsDecided B → IsDecided (A × B)
+pub both : {A B : Type 0} → IsDecided A → IsDecided B → IsDecided (A × B)
 both (inl a) (inl b) = inl (a, b)
 both (inr never) b = inr (λ h. never h.0)
 both (inl a) (inr never) = inr (λ h. never h.1)
@@ -36,11 +36,11 @@ where_so (inr never) b = inl (λ a. absurd (never a))
 where_so (inl a) (inl b) = inl (λ h. b)
 where_so (inl a) (inr never) = inr (λ f. never (f a))
 
-alike : {A B : Type 0} → (A → B) → (B → A) → IsDecided A → IsDecided B
+pub alike : {A B : Type 0} → (A → B) → (B → A) → IsDecided A → IsDecided B
 alike f g (inl a) = inl (f a)
 alike f g (inr never) = inr (λ b. never (g b))
 
-below_cases : (m n : ℕ) → IsDecided (m < n)
+pub below_cases : (m n : ℕ) → IsDecided (m < n)
 below_cases m n =
     elim (cases_lt m n) [
       | inl less ↦ inl less
@@ -57,10 +57,10 @@ within_cases m n =
 at_most_cases : (a b : ℤ) → IsDecided (a ≤ℤ b)
 at_most_cases a b = by_lt_z b a (λ less. inr (λ most. omega (arith, ints, less, most))) (λ most. inl most)
 
-less_cases : (a b : ℤ) → IsDecided (a <ℤ b)
+pub less_cases : (a b : ℤ) → IsDecided (a <ℤ b)
 less_cases a b = by_lt_z a b (λ less. inl less) (λ most. inr (λ less. omega (arith, ints, less, most)))
 
-equal_cases : (a b : ℤ) → IsDecided (a ≡ b)
+pub equal_cases : (a b : ℤ) → IsDecided (a ≡ b)
 equal_cases a b =
     elim (cases_Bool (int_eq a b)) [
       | inl same ↦ inl ((Decides-int_eq a b).0 same)

@@ -62,7 +62,8 @@ abbrev pub BoundsSecond : Coefs → (g h : ℤ) → Type 0
 BoundsSecond k g h =
     (from_one : Bool) (s : Fraction) (xs ys : List Fraction) (Xs : List ℤ)
     → pos 0 <ℤ h → MayStart k from_one → whole (pos 0) ≤ℚ s → IsSection k from_one xs ys → AllNear s xs Xs
-    → size (whole (pos (2 ^ 32)) *ℚ second_error k from_one xs ys Xs -ℚ whole k.a1 *ℚ first_error k from_one xs ys Xs) ≤ℚ (whole g *ℚ s +ℚ units h)
+    → size (whole (pos (2 ^ 32)) *ℚ second_error k from_one xs ys Xs -ℚ whole k.a1 *ℚ first_error k from_one xs ys Xs)
+    ≤ℚ (whole g *ℚ s +ℚ units h)
 
 -- the second state has no error where h is 0, which says that the certificate has one row
 abbrev pub KeepsSecond : Coefs → (h : ℤ) → Type 0

@@ -67,7 +67,8 @@ pub record HasIdentity (k : Coefs) (rows : List CertRow) (i : ℕ) : Type 0 wher
 -- of the first, the second and the next row's form, and a share
 abbrev pub Covers : CertRow → (first second next : ℤ) → (share : ℕ) → (own : ℤ) → Type 0
 Covers r first second next share own =
-    (pos (unsigned_abs r.c) *ℤ first +ℤ pos (unsigned_abs r.d) *ℤ second +ℤ pos (2 ^ 64) *ℤ next +ℤ pos share) ≤ℤ (pos (2 ^ 64) *ℤ own)
+    (pos (unsigned_abs r.c) *ℤ first +ℤ pos (unsigned_abs r.d) *ℤ second +ℤ pos (2 ^ 64) *ℤ next
+    +ℤ pos share) ≤ℤ (pos (2 ^ 64) *ℤ own)
 
 -- Input of row i: its g covers the input's share.
 abbrev pub CoversInput : Coefs → List CertRow → ℕ → Type 0
@@ -102,7 +103,8 @@ pass Input = 2
 pass Rounding = 2
 
 pub record IsEarlier (first : Cause) (i : ℕ) (second : Cause) (j : ℕ) : Type 0 where
-  pub is : (pass first < pass second) ⊎ ((pass first ≡ pass second) × ((i < j) ⊎ ((i ≡ j) × (cause_number first < cause_number second))))
+  pub is : (pass first < pass second) ⊎ ((pass first ≡ pass second) × ((i < j) ⊎ ((i ≡ j)
+      × (cause_number first < cause_number second))))
 
 -- This condition fails on row i, and no earlier one fails. Each certificate fits or has one first fault, since `check` answers.
 pub record IsFirstUnmet (k : Coefs) (rows : List CertRow) (cause : Cause) (i : ℕ) : Type 0 where

@@ -25,7 +25,15 @@ form_of k (suc i) = next_form k (form_of k i)
 
 -- a row that another row follows, and the last row, with their bounds g and h still 0
 abbrev pub inner_row : Coefs → Form → CertRow
-inner_row k f = record { x = f.x; y = f.y; c = fed_back k f.x f.y -ℤ pos (2 ^ 32) *ℤ (next_form k f).x; d = pos 0; g = pos 0; h = pos 0 }
+inner_row k f = record {
+  x = f.x;
+  y = f.y;
+  c = fed_back k f.x f.y
+      -ℤ pos (2 ^ 32) *ℤ (next_form k f).x;
+  d = pos 0;
+  g = pos 0;
+  h = pos 0;
+}
 
 abbrev pub last_row : Coefs → Form → CertRow
 last_row k f = record { x = f.x; y = f.y; c = neg_ℤ (k.a2 *ℤ f.y); d = pos (2 ^ 32) *ℤ f.x; g = pos 0; h = pos 0 }

@@ -18,7 +18,11 @@ output k s x = product k.b0 x +ℤ s.s1
 
 -- `s1 = b1 x - a1 y + s2` and `s2 = b2 x - a2 y`
 abbrev pub after : Coefs → State → ℤ → State
-after k s x = record { s1 = product k.b1 x -ℤ product k.a1 (output k s x) +ℤ s.s2; s2 = product k.b2 x -ℤ product k.a2 (output k s x) }
+after k s x = record {
+  s1 = product k.b1 x -ℤ product k.a1 (output k s x) +ℤ s.s2;
+  s2 = product k.b2 x
+      -ℤ product k.a2 (output k s x);
+}
 
 -- Both states begin at 0. A section from one begins as if the input had always been 1, which is 2^48 units, with the output 0.
 abbrev pub start : Coefs → (from_one : Bool) → State

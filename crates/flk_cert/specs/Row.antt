@@ -12,7 +12,8 @@ fed_back k x y = neg_ℤ (k.a1 *ℤ x) -ℤ k.a2 *ℤ y
 
 -- how much of the input's error it takes up
 abbrev pub input_share : Coefs → ℤ → ℤ → ℕ
-input_share k x y = unsigned_abs (x *ℤ (pos (2 ^ 32) *ℤ k.b1 -ℤ k.a1 *ℤ k.b0) +ℤ y *ℤ (pos (2 ^ 32) *ℤ k.b2 -ℤ k.a2 *ℤ k.b0))
+input_share k x y = unsigned_abs (x *ℤ (pos (2 ^ 32) *ℤ k.b1 -ℤ k.a1 *ℤ k.b0) +ℤ y *ℤ (pos (2 ^ 32) *ℤ k.b2
+    -ℤ k.a2 *ℤ k.b0))
 
 -- how much of the rounding of products, each of which loses less than one unit
 abbrev pub rounding_share : Coefs → ℤ → ℤ → ℕ

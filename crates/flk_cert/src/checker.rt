@@ -44,7 +44,9 @@ fn is_first_combined(k: &Coefs, row: CertRow, next: CertRow) -> bool
     requires next { HasRanges next }
     requires c { unsigned_abs row.c ≤ 2 ^ 62 }
     requires d { unsigned_abs row.d ≤ 2 ^ 62 }
-    ensures { IsTrue result ↔ (pos (2 ^ 32) *ℤ fed_back k.now row.x row.y ≡ pos (2 ^ 64) *ℤ next.x +ℤ pos (2 ^ 32) *ℤ row.c -ℤ k.now.a1 *ℤ row.d) }
+    ensures { IsTrue result
+        ↔ (pos (2 ^ 32) *ℤ fed_back k.now row.x row.y ≡ pos (2 ^ 64) *ℤ next.x +ℤ pos (2 ^ 32) *ℤ row.c
+        -ℤ k.now.a1 *ℤ row.d) }
 {
     let form = Form { x: row.x, y: row.y };
     let fed_back = COEFFICIENT_UNIT * first_state_part(k, form);

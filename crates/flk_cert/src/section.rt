@@ -13,8 +13,10 @@ ghost use Rattle.flk_cert.specs.declared.gain.Gain.{Gain as GainView};
 
 /// For each list of inputs a section has one list of outputs, where fractions of one value are one.
 pub fn inputs_have_one_list_of_outputs()
-    ensures exists { (k : CoefsView) (from_one : Bool) (xs : List Fraction) → (ys : List Fraction) × IsSection k from_one xs ys }
-    ensures unique { (k : CoefsView) (from_one : Bool) (xs ys zs : List Fraction) → IsSection k from_one xs ys → IsSection k from_one xs zs → AllZip (λ y z. y ≈ℚ z) ys zs }
+    ensures exists { (k : CoefsView) (from_one : Bool) (xs : List Fraction)
+        → (ys : List Fraction) × IsSection k from_one xs ys }
+    ensures unique { (k : CoefsView) (from_one : Bool) (xs ys zs : List Fraction) → IsSection k from_one xs ys
+        → IsSection k from_one xs zs → AllZip (λ y z. y ≈ℚ z) ys zs }
 {}
 
 /// A gain bounds the error of each output.
@@ -35,5 +37,6 @@ pub fn gain_bounds_both_states()
 
 /// The gains of one certificate have the same numbers.
 pub fn certificate_has_one_gain()
-    ensures { (k : CoefsView) (rows : List RowView) (g h : GainView) → IsGainOf k rows g → IsGainOf k rows h → gain_numbers g ≡ gain_numbers h }
+    ensures { (k : CoefsView) (rows : List RowView) (g h : GainView) → IsGainOf k rows g → IsGainOf k rows h
+        → gain_numbers g ≡ gain_numbers h }
 {}
