@@ -1,3 +1,4 @@
+mod Held
 pub mod SectionLemmas
 pub mod RangeLemmas
 pub mod RadiusLemmas
@@ -5,3 +6,11 @@ pub mod CascadeLemmas
 pub mod RowLemmas
 pub mod WidthLemmas
 pub mod ReachedLemmas
+pub mod ChainSteps
+pub mod ChainRuns
+pub mod OwnLemmas
+pub mod ChainLemmas
+pub mod ChainBound
+pub mod WholeLemmas
+pub mod FormLemmas
+pub mod OwningLemmas

@@ -1,5 +1,5 @@
 -- A greater radius before a section never gives a smaller one behind it.
-use Rattle.std.proofs.Common.{◌≡◌, ℕ, ◌+◌, ◌^◌, ◌<◌, suc, List, [], ◌∷◌, length, drop, get_or, refl, sym, ap, subst, ◌∙◌, add-one, arith}
+use Rattle.std.proofs.Common.{◌≡◌, ℕ, ◌+◌, ◌^◌, ◌<◌, suc, List, [], ◌∷◌, length, map, drop, get_or, refl, sym, ap, subst, ◌∙◌, add-one, arith}
 use Rattle.std.proofs.Math.IntN.{ℤ, pos, ◌*ℤ◌}
 use Rattle.std.specs.Prelude.{◌↔◌, ◌≤ℤ◌, ◌<ℤ◌}
 use Rattle.std.specs.Int.RustNames.{unsigned_abs}
@@ -12,15 +12,19 @@ use Rattle.flk_exact.specs.Rounding.{ceil_of, IsCeil}
 use Rattle.flk_exact.proofs.WholeLemmas.{natural_is, scale_≤, cancel_≤}
 use Rattle.flk_exact.proofs.RoundingLemmas.{IsCeil-at}
 use Rattle.flk_cert.specs.declared.gain.Gain.{Gain}
-use Rattle.flk_cert.specs.Gain.{input_of}
-use Rattle.flk_cert.proofs.GainLemmas.{gain_input_natural}
+use Rattle.flk_cert.specs.Gain.{input_of, rounding_of, gain_numbers}
+use Rattle.flk_cert.proofs.GainLemmas.{gain_input_natural, gain_rounding_natural}
 use Rattle.flk_front.specs.declared.point.Point.{Point}
-use Rattle.flk_section.specs.Points.{greatest_radius}
-use Rattle.flk_section.specs.Radius.{radius_after, radii, last_radius, units_above}
-use Rattle.flk_section.proofs.SectionLemmas.{radius_natural}
+use Rattle.flk_section.specs.declared.whole.Whole.{Whole}
+use Rattle.flk_section.specs.Points.{greatest_point, greatest_radius}
+use Rattle.flk_section.specs.Radius.{radius_by, radius_after, radii, units_above}
+use Rattle.flk_section.specs.Filter.{last_radius}
+use Rattle.flk_section.specs.Chain.{first_input_in, first_rounding_in}
+use Rattle.flk_section.specs.Whole.{numbers_of}
+use Rattle.flk_section.proofs.SectionLemmas.{radius_by_natural}
 
-radius_ceil : (g : Gain) (r : ℤ) → IsCeil (r *ℤ input_of g) (pos (2 ^ 32)) (ceil_of (r *ℤ input_of g) (pos (2 ^ 32)))
-radius_ceil g r = IsCeil-at (r *ℤ input_of g) (pos (2 ^ 32)) (ceil_of (r *ℤ input_of g) (pos (2 ^ 32))) (omega (arith, ints)) refl
+radius_ceil : (i r : ℤ) → IsCeil (r *ℤ i) (pos (2 ^ 32)) (ceil_of (r *ℤ i) (pos (2 ^ 32)))
+radius_ceil i r = IsCeil-at (r *ℤ i) (pos (2 ^ 32)) (ceil_of (r *ℤ i) (pos (2 ^ 32))) (omega (arith, ints)) refl
 
 times_natural : (r s i : ℤ) → pos 0 ≤ℤ i → r ≤ℤ s → (r *ℤ i) ≤ℤ (s *ℤ i)
 times_natural r s i natural h =
@@ -29,19 +33,40 @@ times_natural r s i natural h =
     let b : s *ℤ i ≡ s *ℤ pos (unsigned_abs i) = ap (λ (z : ℤ). s *ℤ z) e in
     omega (arith, ints, a, b, scale_≤ r s (unsigned_abs i) h)
 
+pub radius_by_rises : (i t r s : ℤ) → pos 0 ≤ℤ i → r ≤ℤ s → radius_by i t r ≤ℤ radius_by i t s
+radius_by_rises i t r s natural h =
+    let low = (radius_ceil i r).least in
+    let high = (radius_ceil i s).within in
+    omega (arith, ints, low, high, times_natural r s i natural h)
+
 pub radius_rises : (g : Gain) (r s : ℤ) → r ≤ℤ s → radius_after g r ≤ℤ radius_after g s
-radius_rises g r s h =
-    let low = (radius_ceil g r).least in
-    let high = (radius_ceil g s).within in
-    omega (arith, ints, low, high, times_natural r s (input_of g) (gain_input_natural g) h)
+radius_rises g r s h = radius_by_rises (input_of g) (rounding_of g) r s (gain_input_natural g) h
 
-pub last_radius_rises : (gains : List Gain) (r s : ℤ) → r ≤ℤ s → last_radius gains r ≤ℤ last_radius gains s
-last_radius_rises [] r s h = h
-last_radius_rises (g ∷ gs) r s h = last_radius_rises gs (radius_after g r) (radius_after g s) (radius_rises g r s h)
+-- ---- the radius behind the last section
 
-pub last_radius_natural : (gains : List Gain) (r : ℤ) → pos 0 ≤ℤ r → pos 0 ≤ℤ last_radius gains r
-last_radius_natural [] r h = h
-last_radius_natural (g ∷ gs) r h = last_radius_natural gs (radius_after g r) (radius_natural g r h)
+first_input_natural : (gains : List Gain) → pos 0 ≤ℤ first_input_in (map gain_numbers gains)
+first_input_natural [] = omega (arith, ints)
+first_input_natural (g ∷ gs) = gain_input_natural g
+
+first_rounding_natural : (gains : List Gain) → pos 0 ≤ℤ first_rounding_in (map gain_numbers gains)
+first_rounding_natural [] = omega (arith, ints)
+first_rounding_natural (g ∷ gs) = gain_rounding_natural g
+
+pub last_radius_rises : (w : Whole) (r s : ℤ) → r ≤ℤ s → last_radius (numbers_of w) r ≤ℤ last_radius (numbers_of w) s
+last_radius_rises w r s h =
+    radius_by_rises w.input w.rounding _ _ w.input_natural
+    (radius_by_rises (first_input_in (map gain_numbers w.gains)) (first_rounding_in (map gain_numbers w.gains)) r s (first_input_natural w.gains) h)
+
+pub last_radius_natural : (w : Whole) (r : ℤ) → pos 0 ≤ℤ r → pos 0 ≤ℤ last_radius (numbers_of w) r
+last_radius_natural w r h =
+    radius_by_natural w.input w.rounding _ w.input_natural w.rounding_natural
+    (radius_by_natural (first_input_in (map gain_numbers w.gains)) (first_rounding_in (map gain_numbers w.gains)) r (first_input_natural w.gains) (first_rounding_natural w.gains) h)
+
+pub last_radius_small : (w : Whole) (r : ℤ) → r ≤ℤ pos greatest_point → last_radius (numbers_of w) r <ℤ pos (2 ^ 60)
+last_radius_small w r h =
+    let rises = last_radius_rises w r (pos greatest_point) h in
+    let small = w.radius_small in
+    omega (arith, ints, rises, small)
 
 -- ---- radii that stay small
 
@@ -78,12 +103,6 @@ radii_below (g ∷ gs) r s h small =
     let head = All-head (λ z. z <ℤ pos (2 ^ 60)) (radius_after g s) (radii gs (radius_after g s)) small in
     let tail = All-tail (λ z. z <ℤ pos (2 ^ 60)) (radius_after g s) (radii gs (radius_after g s)) small in
     All-cons (λ z. z <ℤ pos (2 ^ 60)) (radius_after g r) (radii gs (radius_after g r)) (omega (arith, ints, rises, head)) (radii_below gs (radius_after g r) (radius_after g s) rises tail)
-
-pub last_radius_small : (gs : List Gain) (r : ℤ) → r <ℤ pos (2 ^ 60) → All (λ z. z <ℤ pos (2 ^ 60)) (radii gs r) → last_radius gs r <ℤ pos (2 ^ 60)
-last_radius_small [] r h small = h
-last_radius_small (g ∷ gs) r h small =
-    last_radius_small gs (radius_after g r) (All-head (λ z. z <ℤ pos (2 ^ 60)) (radius_after g r) (radii gs (radius_after g r)) small)
-    (All-tail (λ z. z <ℤ pos (2 ^ 60)) (radius_after g r) (radii gs (radius_after g r)) small)
 
 -- what is left of a list begins with its item at the index
 pub left_split : {A : Type 0} (xs : List A) (i : ℕ) (x : A) → i < length xs → x ≡ get_or xs i x → drop i xs ≡ x ∷ drop (i + 1) xs

@@ -20,7 +20,7 @@ use Rattle.flk_cert.specs.Bound.{MayStart}
 use Rattle.flk_cert.proofs.RunLemmas.{lost_of, product_rounded}
 use Rattle.flk_cert.proofs.GainLemmas.{gain_rounding_small}
 use Rattle.flk_section.specs.Radius.{radius_after}
-use Rattle.flk_section.specs.Kept.{rest, IsNearRest, IsReached}
+use Rattle.flk_section.specs.Kept.{rest, IsNearRest, IsReachedState}
 use Rattle.flk_section.proofs.SectionLemmas.{outputs_near_rest}
 
 -- a rounded product by a coefficient
@@ -96,17 +96,17 @@ second_reached g from_one (X ∷ Xs) may input small =
 
 -- ---- of the state that the code holds
 
-pub first_small : (g : Gain) (from_one : Bool) (s : State) → MayStart (coefs_of g) from_one → input_of g <ℤ pos (2 ^ 36) → ∥ IsReached (coefs_of g) from_one s ∥₁ → unsigned_abs s.s1 ≤ 2 ^ 66
+pub first_small : (g : Gain) (from_one : Bool) (s : State) → MayStart (coefs_of g) from_one → input_of g <ℤ pos (2 ^ 36) → ∥ IsReachedState (coefs_of g) from_one s ∥₁ → unsigned_abs s.s1 ≤ 2 ^ 66
 first_small g from_one s may input r =
-    ∥∥₁_elim r le_prop (λ (t : IsReached (coefs_of g) from_one s). subst (λ (z : State). unsigned_abs z.s1 ≤ 2 ^ 66) t.is (first_reached g from_one t.inputs may input t.small))
+    ∥∥₁_elim r le_prop (λ (t : IsReachedState (coefs_of g) from_one s). subst (λ (z : State). unsigned_abs z.s1 ≤ 2 ^ 66) t.is (first_reached g from_one t.inputs may input t.small))
 
-pub second_small : (g : Gain) (from_one : Bool) (s : State) → MayStart (coefs_of g) from_one → input_of g <ℤ pos (2 ^ 36) → ∥ IsReached (coefs_of g) from_one s ∥₁ → unsigned_abs s.s2 ≤ 2 ^ 68
+pub second_small : (g : Gain) (from_one : Bool) (s : State) → MayStart (coefs_of g) from_one → input_of g <ℤ pos (2 ^ 36) → ∥ IsReachedState (coefs_of g) from_one s ∥₁ → unsigned_abs s.s2 ≤ 2 ^ 68
 second_small g from_one s may input r =
-    ∥∥₁_elim r le_prop (λ (t : IsReached (coefs_of g) from_one s). subst (λ (z : State). unsigned_abs z.s2 ≤ 2 ^ 68) t.is (second_reached g from_one t.inputs may input t.small))
+    ∥∥₁_elim r le_prop (λ (t : IsReachedState (coefs_of g) from_one s). subst (λ (z : State). unsigned_abs z.s2 ≤ 2 ^ 68) t.is (second_reached g from_one t.inputs may input t.small))
 
-pub reached_after : (k : Coefs) (from_one : Bool) (s : State) (X : ℤ) → unsigned_abs X < 2 ^ 60 → ∥ IsReached k from_one s ∥₁ → ∥ IsReached k from_one (after k s X) ∥₁
+pub reached_after : (k : Coefs) (from_one : Bool) (s : State) (X : ℤ) → unsigned_abs X < 2 ^ 60 → ∥ IsReachedState k from_one s ∥₁ → ∥ IsReachedState k from_one (after k s X) ∥₁
 reached_after k from_one s X small r =
-    ∥∥₁_map r (λ (t : IsReached k from_one s). let made : IsReached k from_one (after k s X) = record { inputs = X ∷ t.inputs; small = All-cons IsSmall X t.inputs small t.small; is = ap (λ (z : State). after k z X) t.is } in made)
+    ∥∥₁_map r (λ (t : IsReachedState k from_one s). let made : IsReachedState k from_one (after k s X) = record { inputs = X ∷ t.inputs; small = All-cons IsSmall X t.inputs small t.small; is = ap (λ (z : State). after k z X) t.is } in made)
 
 -- ---- what the code makes
 

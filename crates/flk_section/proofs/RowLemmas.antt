@@ -20,7 +20,7 @@ use Rattle.flk_section.specs.declared.section.Section.{Section}
 use Rattle.flk_section.specs.RoundedCascade.{last_output}
 use Rattle.flk_section.specs.Radius.{radius_after, radii}
 use Rattle.flk_section.specs.Kept.{IsNearRest}
-use Rattle.flk_section.specs.Section.{gain_of, coefs_in, starts_from_one, Stands}
+use Rattle.flk_section.specs.Section.{gain_of, coefs_in, starts_from_one, SectionStands}
 use Rattle.flk_section.specs.Row.{StandInRow, AreReady}
 use Rattle.flk_section.proofs.SectionLemmas.{may_start, outputs_near_rest, radius_natural}
 use Rattle.flk_section.proofs.RadiusLemmas.{left_split}
@@ -29,20 +29,20 @@ use Rattle.flk_section.proofs.RadiusLemmas.{left_split}
 pub record IsStepped (s t : Section) (X Y : ℤ) : Type 0 where
   pub gain : gain_of t ≡ gain_of s
   pub start : starts_from_one t ≡ starts_from_one s
-  pub stands : (Xs : List ℤ) → Stands s Xs → Stands t (X ∷ Xs)
-  pub output : (Xs : List ℤ) → Stands s Xs → Y ≡ output (coefs_in s) (state (coefs_in s) (starts_from_one s) Xs) X
+  pub stands : (Xs : List ℤ) → SectionStands s Xs → SectionStands t (X ∷ Xs)
+  pub output : (Xs : List ℤ) → SectionStands s Xs → Y ≡ output (coefs_in s) (state (coefs_in s) (starts_from_one s) Xs) X
 
 -- The input X went through the first i sections after the inputs Xs, and came to Y; the others are as before.
 abbrev pub Midway : ℕ → (from_one : Bool) → List Section → (X : ℤ) → List ℤ → (Y : ℤ) → Type 0
 Midway zero from_one ss X Xs Y = (Y ≡ X) × StandInRow from_one ss Xs
 Midway (suc i) from_one [] X Xs Y = ⊥
 Midway (suc i) from_one (s ∷ ss) X Xs Y =
-    (starts_from_one s ≡ from_one) × Stands s (X ∷ Xs) × Midway i false ss (output (coefs_in s) (state (coefs_in s) from_one Xs) X) (outputs (coefs_in s) from_one Xs) Y
+    (starts_from_one s ≡ from_one) × SectionStands s (X ∷ Xs) × Midway i false ss (output (coefs_in s) (state (coefs_in s) from_one Xs) X) (outputs (coefs_in s) from_one Xs) Y
 
 midway_first : (from_one : Bool) (s t : Section) (ss : List Section) (X : ℤ) (Xs : List ℤ) (Y Z : ℤ) → IsStepped s t Y Z → Midway 0 from_one (s ∷ ss) X Xs Y → Midway 1 from_one (t ∷ ss) X Xs Z
 midway_first from_one s t ss X Xs Y Z step (same, (start, stands, others)) =
     let k : coefs_in t ≡ coefs_in s = ap coefs_of step.gain in
-    let here : Stands t (X ∷ Xs) = subst (λ (z : ℤ). Stands t (z ∷ Xs)) same (step.stands Xs stands) in
+    let here : SectionStands t (X ∷ Xs) = subst (λ (z : ℤ). SectionStands t (z ∷ Xs)) same (step.stands Xs stands) in
     let value : Z ≡ output (coefs_in s) (state (coefs_in s) (starts_from_one s) Xs) X = subst (λ (z : ℤ). Z ≡ output (coefs_in s) (state (coefs_in s) (starts_from_one s) Xs) z) same (step.output Xs stands) in
     let from : Z ≡ output (coefs_in s) (state (coefs_in s) from_one Xs) X = subst (λ (b : Bool). Z ≡ output (coefs_in s) (state (coefs_in s) b Xs) X) start value in (
       step.start ∙ start,

@@ -18,21 +18,19 @@ use Rattle.flk_cert.specs.declared.gain.Gain.{Gain}
 use Rattle.flk_cert.specs.Gain.{coefs_of, input_of, rounding_of}
 use Rattle.flk_cert.specs.Section.{coefficient, newest, second_newest, input_before, IsSection}
 use Rattle.flk_cert.specs.RoundedSection.{outputs}
-use Rattle.flk_cert.specs.Bound.{StartsAtRest, MayStart, IsInputNear as IsNear, AllNear, IsErrorWithin as IsWithin}
+use Rattle.flk_cert.specs.Bound.{StartsAtRest, MayStart, IsInputNear, AllNear, IsErrorWithin}
 use Rattle.flk_cert.proofs.RunLemmas.{over_coefficient, over_sum_of, sum_of, held_one}
 use Rattle.flk_cert.proofs.GainLemmas.{gain_bounds, gain_input_natural, gain_rounding_natural}
 use Rattle.flk_cert.proofs.PromiseLemmas.{bounds_each}
-use Rattle.flk_section.specs.Radius.{radius_after}
+use Rattle.flk_section.specs.Radius.{radius_by, radius_after}
 use Rattle.flk_section.specs.Kept.{rest, IsNearRest}
 
 -- ---- the radius behind a section
 
--- it covers what the gain promises
-radius_covers : (g : Gain) (r : ℤ) → (coefficient (input_of g) *ℚ units r +ℚ units (rounding_of g)) ≤ℚ units (radius_after g r)
-radius_covers g r =
+-- it covers what a gain promises
+pub radius_covers : (i t r : ℤ) → (coefficient i *ℚ units r +ℚ units t) ≤ℚ units (radius_by i t r)
+radius_covers i t r =
     let d : ℕ = 2 ^ 48 in
-    let i : ℤ = input_of g in
-    let t : ℤ = rounding_of g in
     let c : ℤ = ceil_of (r *ℤ i) (pos (2 ^ 32)) in
     let up : (r *ℤ i) ≤ℤ (c *ℤ pos (2 ^ 32)) = (IsCeil-at (r *ℤ i) (pos (2 ^ 32)) c (omega (arith, ints)) refl).within in
     let scaled : IsOver (d * 2 ^ 32) (coefficient i *ℚ units r) (i *ℤ r) = over_coefficient d i (units r) r (over_own (units r)) in
@@ -40,25 +38,27 @@ radius_covers g r =
     let right : IsOver (d * 2 ^ 32) (units (c +ℤ t)) ((c +ℤ t) *ℤ pos (2 ^ 32)) = over_grow d (2 ^ 32) (units (c +ℤ t)) (c +ℤ t) (over_own (units (c +ℤ t))) in
     at_most_over (d * 2 ^ 32) _ _ _ _ (omega arith) (omega (arith, ints, up)) (over_sum (d * 2 ^ 32) _ _ _ _ scaled share) right
 
-natural_units : (r : ℤ) → pos 0 ≤ℤ r → whole (pos 0) ≤ℚ units r
+pub natural_units : (r : ℤ) → pos 0 ≤ℤ r → whole (pos 0) ≤ℚ units r
 natural_units r h = record { cross = omega (arith, ints) }
 
 -- Where each exact input is within r units of the rounded section's, each exact output is within the next radius of its own.
 pub section_near : (g : Gain) (from_one : Bool) (r : ℤ) (xs ys : List Fraction) (Xs : List ℤ) → MayStart (coefs_of g) from_one → pos 0 ≤ℤ r
     → IsSection (coefs_of g) from_one xs ys → AllNear (units r) xs Xs → AllNear (units (radius_after g r)) ys (outputs (coefs_of g) from_one Xs)
 section_near g from_one r xs ys Xs may natural run near =
-    AllZip-weaker (IsWithin (input_of g) (rounding_of g) (units r)) (IsNear (units (radius_after g r)))
-    (λ y Y h. record { near = ≤ℚ-trans _ _ _ h (radius_covers g r) })
+    AllZip-weaker (IsErrorWithin (input_of g) (rounding_of g) (units r)) (IsInputNear (units (radius_after g r)))
+    (λ y Y h. record { near = ≤ℚ-trans _ _ _ h (radius_covers (input_of g) (rounding_of g) r) })
     ys (outputs (coefs_of g) from_one Xs)
     (bounds_each (coefs_of g) (input_of g) (rounding_of g) (gain_bounds g) from_one (units r) xs ys Xs may (natural_units r natural) run near)
 
-pub radius_natural : (g : Gain) (r : ℤ) → pos 0 ≤ℤ r → pos 0 ≤ℤ radius_after g r
-radius_natural g r h =
-    let i : ℤ = input_of g in
+pub radius_by_natural : (i t r : ℤ) → pos 0 ≤ℤ i → pos 0 ≤ℤ t → pos 0 ≤ℤ r → pos 0 ≤ℤ radius_by i t r
+radius_by_natural i t r ni nt h =
     let c : ℤ = ceil_of (r *ℤ i) (pos (2 ^ 32)) in
     let up : (r *ℤ i) ≤ℤ (c *ℤ pos (2 ^ 32)) = (IsCeil-at (r *ℤ i) (pos (2 ^ 32)) c (omega (arith, ints)) refl).within in
-    let e : r *ℤ i ≡ pos (unsigned_abs r * unsigned_abs i) = ap (λ (z : ℤ). z *ℤ i) (natural_is r h) ∙ ap (λ (z : ℤ). pos (unsigned_abs r) *ℤ z) (natural_is i (gain_input_natural g)) in
-    omega (arith, ints, up, e, gain_rounding_natural g)
+    let e : r *ℤ i ≡ pos (unsigned_abs r * unsigned_abs i) = ap (λ (z : ℤ). z *ℤ i) (natural_is r h) ∙ ap (λ (z : ℤ). pos (unsigned_abs r) *ℤ z) (natural_is i ni) in
+    omega (arith, ints, up, e, nt)
+
+pub radius_natural : (g : Gain) (r : ℤ) → pos 0 ≤ℤ r → pos 0 ≤ℤ radius_after g r
+radius_natural g r h = radius_by_natural (input_of g) (rounding_of g) r (gain_input_natural g) (gain_rounding_natural g) h
 
 -- ---- a section at rest
 
@@ -121,7 +121,7 @@ rest_units : (from_one : Bool) → IsOver (2 ^ 48) (input_before from_one) (rest
 rest_units true = record { is = refl }
 rest_units false = record { is = refl }
 
-near_rest : (from_one : Bool) (r X : ℤ) → IsNearRest from_one r X → IsNear (units r) (input_before from_one) X
+near_rest : (from_one : Bool) (r X : ℤ) → IsNearRest from_one r X → IsInputNear (units r) (input_before from_one) X
 near_rest from_one r X h =
     let gap = over_size (2 ^ 48) _ _ (over_difference (2 ^ 48) (input_before from_one) (units X) (rest from_one) X (rest_units from_one) (over_own (units X))) in
     record { near = at_most_over (2 ^ 48) _ _ _ _ (omega arith) (omega (arith, ints, h.near)) gap (over_own (units r)) }
@@ -130,7 +130,7 @@ all_near_rest : (from_one : Bool) (r : ℤ) (Xs : List ℤ) → All (IsNearRest 
 all_near_rest from_one r [] h = tt
 all_near_rest from_one r (X ∷ Xs) h = (near_rest from_one r X (All-head (IsNearRest from_one r) X Xs h), all_near_rest from_one r Xs (All-tail (IsNearRest from_one r) X Xs h))
 
-near_zero : (r Y : ℤ) → IsNear (units r) (whole (pos 0)) Y → IsNearRest false r Y
+near_zero : (r Y : ℤ) → IsInputNear (units r) (whole (pos 0)) Y → IsNearRest false r Y
 near_zero r Y h =
     let gap = over_size (2 ^ 48) _ _ (over_difference (2 ^ 48) (whole (pos 0)) (units Y) (pos 0) Y (rest_units false) (over_own (units Y))) in
     let least = over_at_most (2 ^ 48) _ _ _ _ (omega arith) h.near gap (over_own (units r)) in

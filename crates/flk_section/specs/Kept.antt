@@ -11,7 +11,7 @@ abbrev pub as_state : States → State
 as_state s = record { s1 = s.s1; s2 = s.s2 }
 
 -- the state comes from inputs below 2^60 in size
-pub record IsReached (k : Coefs) (from_one : Bool) (s : State) : Type 0 where
+pub record IsReachedState (k : Coefs) (from_one : Bool) (s : State) : Type 0 where
   pub inputs : List ℤ
   pub small : All (λ X. unsigned_abs X < 2 ^ 60) inputs
   pub is : state k from_one inputs ≡ s

@@ -1,8 +1,17 @@
+-- ---- what public contracts cite
 pub mod Cascade
 pub mod RoundedCascade
 pub mod Points
 pub mod Radius
-pub mod Kept
+pub mod Filter
+pub mod OwnBounds
+pub mod Forms
+pub mod Chain
+pub mod Whole
 pub mod Section
-pub mod Row
 pub mod Answer
+-- ---- what private ones cite besides
+pub mod Kept
+pub mod Row
+pub mod Followed
+pub mod Owned

@@ -8,7 +8,7 @@ abbrev pub greatest_point : ℕ
 greatest_point = 66 * 2 ^ 48
 
 -- the point is in the adaptor's range
-pub record IsInRange (p : Point) : Type 0 where
+pub record IsPointInRange (p : Point) : Type 0 where
   pub mid_low : pos 0 ≤ℤ p.mid
   pub mid_high : p.mid ≤ℤ pos greatest_point
   pub radius_low : pos 0 ≤ℤ p.radius

@@ -1,19 +1,21 @@
 -- Sections in a row, as the code holds them.
 use Rattle.std.specs.Prelude.{◌≡◌, ◌^◌, Bool, true, false, List, [], ◌∷◌, map, ℤ, pos, ◌≤ℤ◌, ◌<ℤ◌}
 use Rattle.std.specs.List.{All}
+use Rattle.flk_cert.specs.declared.gain.Gain.{Gain}
 use Rattle.flk_cert.specs.Gain.{input_of}
 use Rattle.flk_cert.specs.RoundedSection.{outputs}
 use Rattle.flk_front.specs.declared.point.Point.{Point}
 use Rattle.flk_section.specs.declared.section.Section.{Section}
 use Rattle.flk_section.specs.Kept.{IsNearRest}
-use Rattle.flk_section.specs.Section.{gain_of, coefs_in, starts_from_one, Stands}
-use Rattle.flk_section.specs.Points.{mids, IsInRange}
-use Rattle.flk_section.specs.Radius.{radii, Fits}
+use Rattle.flk_section.specs.Section.{gain_of, coefs_in, starts_from_one, SectionStands}
+use Rattle.flk_section.specs.Points.{mids, IsPointInRange}
+use Rattle.flk_section.specs.Radius.{radii, FitsCascade}
 
 -- The sections stand in a row for these inputs of the first, newest first: each for the outputs of the one before it.
 abbrev pub StandInRow : (from_one : Bool) → List Section → List ℤ → Type 0
 StandInRow from_one [] Xs = Unit {0}
-StandInRow from_one (s ∷ ss) Xs = (starts_from_one s ≡ from_one) × Stands s Xs × StandInRow false ss (outputs (coefs_in s) from_one Xs)
+StandInRow from_one (s ∷ ss) Xs = (starts_from_one s ≡ from_one) × SectionStands s Xs
+    × StandInRow false ss (outputs (coefs_in s) from_one Xs)
 
 -- ---- what the code keeps
 
@@ -29,9 +31,10 @@ pub record AreReady (ss : List Section) (X : ℤ) : Type 0 where
   pub gains : All (λ g. input_of g <ℤ pos (2 ^ 36)) (map gain_of ss)
   pub radii : All (λ z. z <ℤ pos (2 ^ 60)) (radii (map gain_of ss) r)
 
--- The sections stand in a row for the middles of points in the adaptor's range, and their gains fit.
-pub record AreReached (ss : List Section) : Type 0 where
+-- The sections have these gains, which fit, and stand in a row for the middles of points in the adaptor's range.
+pub record AreReached (gains : List Gain) (ss : List Section) : Type 0 where
+  pub gains_are : map gain_of ss ≡ gains
   pub points : List Point
-  pub ranges : All IsInRange points
+  pub ranges : All IsPointInRange points
   pub stand : StandInRow true ss (mids points)
-  pub fits : Fits (map gain_of ss)
+  pub fits : FitsCascade gains

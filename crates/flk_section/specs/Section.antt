@@ -20,5 +20,5 @@ abbrev pub starts_from_one : Section → Bool
 starts_from_one s = s.from_one
 
 -- The state stands for these inputs, newest first: its two numbers are those of the rounded section after them.
-abbrev pub Stands : Section → List ℤ → Type 0
-Stands s Xs = as_state s.state ≡ state (coefs_in s) s.from_one Xs
+abbrev pub SectionStands : Section → List ℤ → Type 0
+SectionStands s Xs = as_state s.state ≡ state (coefs_in s) s.from_one Xs

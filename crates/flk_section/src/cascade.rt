@@ -12,15 +12,18 @@ ghost use Rattle.flk_design.specs.Lamp.{LampConstants};
 ghost use Rattle.flk_design.specs.Design.{IsDesign};
 ghost use Rattle.flk_section.specs.Cascade.{IsCascade, IsWeightedSignal};
 ghost use Rattle.flk_section.specs.RoundedCascade.{last_output};
-ghost use Rattle.flk_section.specs.Points.{IsInRange, greatest_point};
-ghost use Rattle.flk_section.specs.Radius.{last_radius as last_radius_of, FirstStartsAtRest, Fits};
+ghost use Rattle.flk_section.specs.Points.{IsPointInRange, greatest_point};
+ghost use Rattle.flk_section.specs.Radius.{FirstStartsAtRest};
+ghost use Rattle.flk_section.specs.Filter.{last_radius};
+ghost use Rattle.flk_section.specs.Whole.{gains_of, numbers_of};
 ghost use Rattle.flk_section.specs.Section.{gain_of};
 ghost use Rattle.flk_section.specs.Row.{StandInRow, AreReady, AreReached};
 
-use crate::radius::last_radius;
 use crate::section::Section;
+use crate::whole::Whole;
 use flk_cert::Gain;
 use flk_front::Point;
+use flk_num::crosses_threads;
 
 // The sections before their first sample: the first starts from one.
 fn sections_of(gains: [Gain; 7]) -> [Section; 7]
@@ -44,7 +47,8 @@ fn step_in_row(sections: &mut [Section], mid: i128) -> i128
     requires mid { unsigned_abs mid < 2 ^ 60 }
     requires ready { ∥ AreReady sections.old mid ∥₁ }
     ensures gains { map gain_of sections.new ≡ map gain_of sections.old }
-    ensures stand { (from_one : Bool) (Xs : List ℤ) → StandInRow from_one sections.old Xs → StandInRow from_one sections.new (mid ∷ Xs) }
+    ensures stand { (from_one : Bool) (Xs : List ℤ) → StandInRow from_one sections.old Xs
+        → StandInRow from_one sections.new (mid ∷ Xs) }
     ensures output { (from_one : Bool) (Xs : List ℤ) → StandInRow from_one sections.old Xs
         → result ≡ last_output (map coefs_of (map gain_of sections.old)) from_one Xs mid }
     ensures small { unsigned_abs result < 2 ^ 60 }
@@ -59,31 +63,30 @@ fn step_in_row(sections: &mut [Section], mid: i128) -> i128
 /// The weighting filter of the flickermeter, IEC 61000-4-15, block 3: seven sections in a row. Values are in units of 2^-48.
 #[derive(Clone, Copy)]
 pub struct Cascade {
+    whole: Whole,
     sections: [Section; 7],
     // The greatest radius of the points so far, and the radius behind the last section that follows from it.
     greatest: i128,
     radius: i128,
     ghost greatest_low: { pos 0 ≤ℤ greatest },
     ghost greatest_high: { greatest ≤ℤ pos greatest_point },
-    ghost follows: { radius ≡ last_radius_of (map gain_of sections) greatest },
-    ghost reached: { ∥ AreReached sections ∥₁ },
+    ghost follows: { radius ≡ last_radius (numbers_of whole) greatest },
+    ghost reached: { ∥ AreReached (gains_of whole) sections ∥₁ },
 }
 
 impl Cascade {
-    ghost use Rattle.flk_section.specs.Answer.{gains_of, Stands, IsAnswer};
+    ghost use Rattle.flk_section.specs.Answer.{whole_in, CascadeStands, IsAnswer};
 
-    /// The cascade of sections with these gains, before its first point. The first section starts from one, the others from zeros. The gains
-    /// fit, which `fits` says.
-    pub fn new(gains: [Gain; 7]) -> Cascade
-        requires { Fits gains }
-        ensures gains { gains_of result ≡ gains }
-        ensures stands { Stands result [] }
+    /// The cascade with this bound and the gains that it holds, before its first point. The first section starts from one, the others from zeros.
+    pub fn new(whole: Whole) -> Cascade
+        ensures whole { whole_in result ≡ whole }
+        ensures stands { CascadeStands result [] }
     {
-        let sections = sections_of(gains);
         Cascade {
-            sections,
+            whole,
+            sections: sections_of(whole.gains()),
             greatest: 0,
-            radius: last_radius(&sections, 0),
+            radius: whole.last_radius(0),
         }
     }
 
@@ -91,37 +94,42 @@ impl Cascade {
     fn take_radius(&mut self, radius: i128)
         requires low { pos 0 ≤ℤ radius }
         requires high { radius ≤ℤ pos greatest_point }
+        ensures whole { self.new.whole ≡ self.old.whole }
         ensures sections { self.new.sections ≡ self.old.sections }
         ensures greatest { self.new.greatest ≡ int_max radius self.old.greatest }
     {
         if radius > self.greatest {
-            let last = last_radius(&self.sections, radius);
+            let last = self.whole.last_radius(radius);
             self.greatest = radius;
             self.radius = last;
         }
     }
 
     /// Takes the next point of the adaptor, whose `mid` and `radius` are from 0 to 66 times 2^48 units, and answers the point of the weighted
-    /// signal. Its `mid` goes through the sections with rounded products. Its `radius` follows from the greatest radius of all points so far,
-    /// section by section: the radius before it times the gain's input over 2^32, rounded up, and the gain's rounding. Both `mid` and `radius`
-    /// are below 2^60 in size.
+    /// signal. Its `mid` goes through the sections with rounded products. Its `radius` follows from the greatest radius of all points so far:
+    /// that radius times the first gain's input over 2^32, rounded up, and the gain's rounding; then in the same way by the bound of the other
+    /// sections in a row. Both `mid` and `radius` are below 2^60 in size.
     ///
     /// For exact inputs that lie in the points taken, the exact output of the sections in a row lies in the answer. With the coefficients of a
     /// lamp's design this is the lamp's weighted signal.
     pub fn step(&mut self, p: Point) -> Point
-        requires { IsInRange p }
-        ensures gains { gains_of self.new ≡ gains_of self.old }
-        ensures stands { (ps : List PointView) → Stands self.old ps → Stands self.new (p ∷ ps) }
-        ensures answer { (ps : List PointView) → Stands self.old ps → IsAnswer (gains_of self.old) ps p result }
+        requires { IsPointInRange p }
+        ensures whole { whole_in self.new ≡ whole_in self.old }
+        ensures stands { (ps : List PointView) → CascadeStands self.old ps → CascadeStands self.new (p ∷ ps) }
+        ensures answer { (ps : List PointView) → CascadeStands self.old ps
+            → IsAnswer (numbers_of (whole_in self.old)) ps p result }
         ensures mid_small { unsigned_abs result.mid < 2 ^ 60 }
         ensures radius_low { pos 0 ≤ℤ result.radius }
         ensures radius_small { result.radius <ℤ pos (2 ^ 60) }
-        ensures enclosure { (ps : List PointView) (xs ys : List Fraction) (y : Fraction) → Stands self.old ps → AllZip IsWithin (p ∷ ps) xs
-            → IsCascade (map coefs_of (gains_of self.old)) xs (y ∷ ys) → IsWithin result y }
-        ensures signal { (ps : List PointView) (T : Fraction) (c : LampConstants) (xs ws : List Fraction) (w : Fraction) → Stands self.old ps
-            → AllZip IsWithin (p ∷ ps) xs → IsDesign T c (map coefs_of (gains_of self.old)) → IsWeightedSignal T c xs (w ∷ ws) → IsWithin result w }
-        ensures width { (ps : List PointView) (r : ℤ) → Stands self.old ps → All (λ q. q.radius ≤ℤ r) (p ∷ ps)
-            → result.radius ≤ℤ last_radius_of (gains_of self.old) r }
+        ensures enclosure { (ps : List PointView) (xs ys : List Fraction) (y : Fraction) → CascadeStands self.old ps
+            → AllZip IsWithin (p ∷ ps) xs → IsCascade (numbers_of (whole_in self.old)).coefs xs (y ∷ ys)
+            → IsWithin result y }
+        ensures signal { (ps : List PointView) (T : Fraction) (c : LampConstants) (xs ws : List Fraction) (w : Fraction)
+            → CascadeStands self.old ps → AllZip IsWithin (p ∷ ps) xs
+            → IsDesign T c (numbers_of (whole_in self.old)).coefs
+            → IsWeightedSignal T c xs (w ∷ ws) → IsWithin result w }
+        ensures width { (ps : List PointView) (r : ℤ) → CascadeStands self.old ps → All (λ q. q.radius ≤ℤ r) (p ∷ ps)
+            → result.radius ≤ℤ last_radius (numbers_of (whole_in self.old)) r }
     {
         self.take_radius(p.radius);
         Point {
@@ -129,4 +137,17 @@ impl Cascade {
             radius: self.radius,
         }
     }
+}
+
+// A section, the bound of a whole cascade and a cascade can be handed to another thread, and seen by several at once.
+fn section_crosses_threads(section: &Section) {
+    crosses_threads(section);
+}
+
+fn whole_crosses_threads(whole: &Whole) {
+    crosses_threads(whole);
+}
+
+fn cascade_crosses_threads(cascade: &Cascade) {
+    crosses_threads(cascade);
 }

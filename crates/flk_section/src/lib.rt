@@ -2,25 +2,36 @@
 //!
 //! [`Section`] is one section with rounded products. [`Cascade`] takes points, which are whole numbers with a radius, through seven sections
 //! and answers points: what stands in an answer is fixed to the last digit, and it holds the exact signal of every list of inputs that lie
-//! in the points taken, after any number of samples. [`fits`] says for which gains a cascade can be made. No call takes memory.
+//! in the points taken, after any number of samples. [`fits`] says for which gains the sections' numbers stay small, and [`whole_of`] makes
+//! the bound of a whole cascade, [`Whole`], from which one can be made. No call takes memory.
 //!
 //! What the exact and the rounded sections are stands in flk_cert. Here `specs/` puts them in a row: `Cascade` exactly, `RoundedCascade`
-//! as the program runs them, `Radius` with the rule of the radii, `Section` and `Answer` with what the states stand for.
+//! as the program runs them, `Radius` with the radii by the sections' own gains, `Filter` with the numbers on which all digits depend, and
+//! `Section` and `Answer` with what the states stand for. `Chain` has the bound of the sections behind the first, what it promises and the
+//! rule by which it is made; the rule's parts stand in `OwnBounds` and `Forms`. docs/CERTIFICATES.md says why it holds, and
+//! `proofs/ChainLemmas` proves it.
 #![tactic(auto)]
 
 mod cascade;
+mod chain;
+mod form;
 mod laws;
+mod own;
 mod radius;
 mod section;
 mod state;
+mod whole;
 
 pub use cascade::Cascade;
+pub use chain::whole_of;
 pub use laws::{
-    answers_are_narrow, answers_hold_outputs, greater_radius_gives_no_smaller,
-    inputs_have_one_signal, points_have_one_list_of_answers,
+    answers_are_narrow, answers_hold_outputs, certified_sections_have_one_filter,
+    greater_radius_gives_no_smaller, inputs_have_one_signal, points_have_one_list_of_answers,
+    rule_bounds_the_chain, whole_bounds_the_chain,
 };
 pub use radius::fits;
 pub use section::Section;
+pub use whole::Whole;
 
 #[cfg(test)]
 mod tests;

@@ -5,9 +5,9 @@ ghost use Rattle.std.specs.Int.RustNames.{unsigned_abs};
 ghost use Rattle.flk_exact.specs.Fraction.{Fraction, ◌≤ℚ◌, whole};
 ghost use Rattle.flk_cert.specs.Section.{IsSection};
 ghost use Rattle.flk_cert.specs.RoundedSection.{state as state_after_inputs, output};
-ghost use Rattle.flk_cert.specs.Bound.{StartsAtRest, AllNear, IsErrorWithin as IsWithin};
+ghost use Rattle.flk_cert.specs.Bound.{StartsAtRest, AllNear, IsErrorWithin};
 ghost use Rattle.flk_cert.specs.Gain.{coefs_of, input_of, rounding_of};
-ghost use Rattle.flk_section.specs.Kept.{as_state, IsReached};
+ghost use Rattle.flk_section.specs.Kept.{as_state, IsReachedState};
 
 use crate::state::{State, output_of, state_after};
 use flk_cert::Gain;
@@ -31,11 +31,11 @@ pub struct Section {
     from_one: bool,
     state: State,
     ghost rests: { IsTrue from_one → StartsAtRest (coefs_of gain) },
-    ghost reached: { ∥ IsReached (coefs_of gain) from_one (as_state state) ∥₁ },
+    ghost reached: { ∥ IsReachedState (coefs_of gain) from_one (as_state state) ∥₁ },
 }
 
 impl Section {
-    ghost use Rattle.flk_section.specs.Section.{gain_of, coefs_in, starts_from_one, Stands};
+    ghost use Rattle.flk_section.specs.Section.{gain_of, coefs_in, starts_from_one, SectionStands};
 
     /// The section with the coefficients of the gain, before its first sample. From one it begins as if its input had always been 1 and its
     /// output 0, which needs coefficients with `b1 = -b0` and `b2 = 0`; else with zeros.
@@ -43,7 +43,7 @@ impl Section {
         requires { IsTrue from_one → StartsAtRest (coefs_of gain) }
         ensures gain { gain_of result ≡ gain }
         ensures start { starts_from_one result ≡ from_one }
-        ensures stands { Stands result [] }
+        ensures stands { SectionStands result [] }
     {
         Section {
             gain,
@@ -71,11 +71,14 @@ impl Section {
         requires input { input_of (gain_of self.old) <ℤ pos (2 ^ 36) }
         ensures gain { gain_of self.new ≡ gain_of self.old }
         ensures start { starts_from_one self.new ≡ starts_from_one self.old }
-        ensures stands { (Xs : List ℤ) → Stands self.old Xs → Stands self.new (mid ∷ Xs) }
-        ensures output { (Xs : List ℤ) → Stands self.old Xs → result ≡ output (coefs_in self.old) (state_after_inputs (coefs_in self.old) (starts_from_one self.old) Xs) mid }
-        ensures enclosure { (Xs : List ℤ) (s x y : Fraction) (xs ys : List Fraction) → Stands self.old Xs → whole (pos 0) ≤ℚ s
+        ensures stands { (Xs : List ℤ) → SectionStands self.old Xs → SectionStands self.new (mid ∷ Xs) }
+        ensures output { (Xs : List ℤ) → SectionStands self.old Xs
+            → result
+            ≡ output (coefs_in self.old) (state_after_inputs (coefs_in self.old) (starts_from_one self.old) Xs) mid }
+        ensures enclosure { (Xs : List ℤ) (s x y : Fraction) (xs ys : List Fraction) → SectionStands self.old Xs
+            → whole (pos 0) ≤ℚ s
             → IsSection (coefs_in self.old) (starts_from_one self.old) (x ∷ xs) (y ∷ ys) → AllNear s (x ∷ xs) (mid ∷ Xs)
-            → IsWithin (input_of (gain_of self.old)) (rounding_of (gain_of self.old)) s y result }
+            → IsErrorWithin (input_of (gain_of self.old)) (rounding_of (gain_of self.old)) s y result }
     {
         let k = self.gain.coefs();
         let output = output_of(&k, self.state, mid);

@@ -10,9 +10,9 @@ use Rattle.flk_section.proofs.radius.rounded_up.Goals as goal
 
 record Up (w : ℤ) : Type 0 where
   shift : shr_z (pos 0 -ℤ w) (2 ^ 32) ≡ floor_of (neg_ℤ w) (pos (2 ^ 32))
-  small : unsigned_abs (shr_z (pos 0 -ℤ w) (2 ^ 32)) ≤ 2 ^ 64
+  small : unsigned_abs (shr_z (pos 0 -ℤ w) (2 ^ 32)) ≤ 2 ^ 93
 
-up : (w : ℤ) → unsigned_abs w ≤ 2 ^ 96 → Up w
+up : (w : ℤ) → unsigned_abs w ≤ 2 ^ 125 → Up w
 up w h =
     let e : pos 0 -ℤ w ≡ neg_ℤ w = omega (arith, ints) in
     let s : shr_z (pos 0 -ℤ w) (2 ^ 32) ≡ floor_of (neg_ℤ w) (pos (2 ^ 32)) = shift_is (pos 0 -ℤ w) ∙ ap (λ (z : ℤ). floor_of z (pos (2 ^ 32))) e in

@@ -1,26 +1,23 @@
-use Rattle.std.proofs.Common.{rules, [], List, map, pos, FitsSigned, sym, subst, arith}
+use Rattle.std.proofs.Common.{rules, ◌≡◌, pos, FitsSigned, sym, subst, ◌∙◌, arith}
 use Rattle.std.specs.Int.{w128}
 use Rattle.std.proofs.lemmas.Int.{ints, to_z-of_z}
-use Rattle.std.proofs.lemmas.List.Elements.{All-nil}
-use Rattle.flk_cert.specs.declared.gain.Gain.{Gain}
-use Rattle.flk_section.specs.Points.{IsInRange, greatest_point}
-use Rattle.flk_section.specs.Radius.{Fits}
-use Rattle.flk_section.specs.Section.{gain_of}
-use Rattle.flk_section.proofs.RadiusLemmas.{radii_below}
+use Rattle.flk_section.specs.Radius.{FirstStartsAtRest}
+use Rattle.flk_section.specs.Filter.{last_radius}
+use Rattle.flk_section.specs.Whole.{numbers_of}
+use Rattle.flk_section.proofs.ReachedLemmas.{whole_start, reached_first}
 use Rattle.flk_section.proofs.cascade.Cascade.new.Goals as goal
 
-pub last_radius-requires-clause-radii : goal.last_radius-requires-clause-radii
-last_radius-requires-clause-radii c =
-    let fits : Fits (map gain_of c.sections_of-sections.result) = subst (λ (gs : List Gain). Fits gs) (sym c.sections_of-sections.ensures.gains) c.requires in
-    radii_below (map gain_of c.sections_of-sections.result) (pos 0) (pos greatest_point) (omega (arith, ints)) fits.radii
+pub sections_of-requires : goal.sections_of-requires
+sections_of-requires c = subst FirstStartsAtRest (sym c.gains.ensures) (whole_start c.args.whole)
 
 pub invariant_of-result : goal.invariant_of-result
 invariant_of-result c =
-    let fits : Fits (map gain_of c.sections_of-sections.result) = subst (λ (gs : List Gain). Fits gs) (sym c.sections_of-sections.ensures.gains) c.requires in
-    let small : FitsSigned w128 c.last_radius.result = search rules in
+    let w = c.args.whole in
+    let fits : FitsSigned w128 c.last_radius.result = search rules in
+    let follows : c.last_radius.result ≡ last_radius (numbers_of w) (pos 0) = search rules in
     record {
       greatest_low = omega (arith, ints);
       greatest_high = omega (arith, ints);
-      follows = simp to_z-of_z c.last_radius.ensures;
-      reached = ∣ record { points = []; ranges = All-nil IsInRange; stand = c.sections_of-sections.ensures.stand; fits = fits } ∣₁;
+      follows = simp to_z-of_z follows;
+      reached = reached_first w c.sections_of.result (c.sections_of.ensures.gains ∙ c.gains.ensures) c.sections_of.ensures.stand;
     }

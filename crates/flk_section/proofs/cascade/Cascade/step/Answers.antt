@@ -1,24 +1,22 @@
-use Rattle.std.proofs.Common.{rules, ◌≡◌, ◌^◌, Bool, List, ◌∷◌, map, ℤ, pos, ◌≤ℤ◌, ◌<ℤ◌, FitsSigned, sym, subst, arith}
+use Rattle.std.proofs.Common.{rules, ◌^◌, Bool, List, ◌∷◌, ℤ, pos, ◌≤ℤ◌, ◌<ℤ◌, FitsSigned, sym, subst, arith}
 use Rattle.std.specs.Int.{w128}
 use Rattle.std.proofs.lemmas.Int.{ints, to_z-of_z}
 use Rattle.std.proofs.lemmas.List.Elements.{All-head}
 use Rattle.flk_exact.proofs.WholeLemmas.{≤ℤ_trans}
-use Rattle.flk_cert.specs.declared.gain.Gain.{Gain}
 use Rattle.flk_front.specs.declared.point.Point.{Point}
 use Rattle.flk_section.specs.declared.cascade.Cascade.{Cascade}
-use Rattle.flk_section.specs.Radius.{last_radius as last_radius_of}
-use Rattle.flk_section.specs.Section.{gain_of}
+use Rattle.flk_section.specs.Whole.{gains_of}
 use Rattle.flk_section.specs.Row.{StandInRow}
-use Rattle.flk_section.proofs.RadiusLemmas.{last_radius_natural}
-use Rattle.flk_section.proofs.CascadeLemmas.{answer_is_narrow}
-use Rattle.flk_section.proofs.ReachedLemmas.{reached_ready, reached_more, reached_last, reached_holds, reached_holds_signal, answer_of}
+use Rattle.flk_section.proofs.RadiusLemmas.{last_radius_natural, last_radius_small}
+use Rattle.flk_section.proofs.CascadeLemmas.{answer_holds, answer_holds_signal, answer_is_narrow}
+use Rattle.flk_section.proofs.ReachedLemmas.{reached_ready, reached_more, answer_of}
 use Rattle.flk_section.proofs.cascade.Cascade.step.Goals as goal
 
 pub step_in_row-requires-clause-ready : goal.step_in_row-requires-clause-ready
 step_in_row-requires-clause-ready c =
     let k = c.take_radius.new.self in
     let fits : FitsSigned w128 c.args.p.mid = search rules in
-    simp to_z-of_z (reached_ready k.sections c.args.p c.requires k.reached)
+    simp to_z-of_z (reached_ready (gains_of k.whole) k.sections c.args.p c.requires k.reached)
 
 pub invariant_of-self : goal.invariant_of-self
 invariant_of-self c =
@@ -29,17 +27,17 @@ invariant_of-self c =
     record {
       greatest_low = k.greatest_low;
       greatest_high = k.greatest_high;
-      follows = subst (λ (gs : List Gain). k.radius ≡ last_radius_of gs k.greatest) (sym c.step_in_row.ensures.gains) k.follows;
-      reached = reached_more k.sections c.step_in_row.new.sections c.args.p c.requires c.step_in_row.ensures.gains stand k.reached;
+      follows = k.follows;
+      reached = reached_more (gains_of k.whole) k.sections c.step_in_row.new.sections c.args.p c.requires c.step_in_row.ensures.gains stand k.reached;
     }
 
 -- ---- the radius that is kept
 
 kept_low : (k : Cascade) → pos 0 ≤ℤ k.radius
-kept_low k = subst (λ (z : ℤ). pos 0 ≤ℤ z) (sym k.follows) (last_radius_natural (map gain_of k.sections) k.greatest k.greatest_low)
+kept_low k = subst (λ (z : ℤ). pos 0 ≤ℤ z) (sym k.follows) (last_radius_natural k.whole k.greatest k.greatest_low)
 
 kept_small : (k : Cascade) → k.radius <ℤ pos (2 ^ 60)
-kept_small k = subst (λ (z : ℤ). z <ℤ pos (2 ^ 60)) (sym k.follows) (reached_last k.sections k.greatest k.greatest_high k.reached)
+kept_small k = subst (λ (z : ℤ). z <ℤ pos (2 ^ 60)) (sym k.follows) (last_radius_small k.whole k.greatest k.greatest_high)
 
 pub returns-clause-radius_low : goal.returns-clause-radius_low
 returns-clause-radius_low c =
@@ -59,6 +57,19 @@ returns-clause-radius_small c =
 
 -- ---- the answer
 
+pub returns-clause-answer : goal.returns-clause-answer
+returns-clause-answer c = λ ps stands.
+    let old = c.args.self.now in
+    let k = c.take_radius.new.self in
+    let fits_mid : FitsSigned w128 c.args.p.mid = search rules in
+    let fits_radius : FitsSigned w128 c.args.p.radius = search rules in
+    let fits_result : FitsSigned w128 c.step_in_row.result = search rules in
+    let low : pos 0 ≤ℤ k.radius = kept_low k in
+    let small : k.radius <ℤ pos (2 ^ 60) = kept_small k in
+    let fits : FitsSigned w128 k.radius = omega (arith, ints, low, small) in
+    simp to_z-of_z
+    (answer_of old k ps c.args.p c.step_in_row.result stands c.take_radius.ensures.whole c.take_radius.ensures.sections (simp to_z-of_z at c.take_radius.ensures.greatest) (simp to_z-of_z at c.step_in_row.ensures.output))
+
 pub returns-clause-enclosure : goal.returns-clause-enclosure
 returns-clause-enclosure c = λ ps xs ys y stands inside run.
     let old = c.args.self.now in
@@ -69,8 +80,8 @@ returns-clause-enclosure c = λ ps xs ys y stands inside run.
     let low : pos 0 ≤ℤ k.radius = kept_low k in
     let small : k.radius <ℤ pos (2 ^ 60) = kept_small k in
     let fits : FitsSigned w128 k.radius = omega (arith, ints, low, small) in
-    let answer = answer_of old k ps c.args.p c.step_in_row.result stands c.take_radius.ensures.sections (simp to_z-of_z at c.take_radius.ensures.greatest) (simp to_z-of_z at c.step_in_row.ensures.output) in
-    simp to_z-of_z (reached_holds old.sections ps c.args.p _ xs ys y old.reached answer inside run)
+    let answer = answer_of old k ps c.args.p c.step_in_row.result stands c.take_radius.ensures.whole c.take_radius.ensures.sections (simp to_z-of_z at c.take_radius.ensures.greatest) (simp to_z-of_z at c.step_in_row.ensures.output) in
+    simp to_z-of_z (answer_holds old.whole ps c.args.p _ xs ys y answer inside run)
 
 pub returns-clause-signal : goal.returns-clause-signal
 returns-clause-signal c = λ ps T constants xs ws w stands inside design signal.
@@ -82,8 +93,8 @@ returns-clause-signal c = λ ps T constants xs ws w stands inside design signal.
     let low : pos 0 ≤ℤ k.radius = kept_low k in
     let small : k.radius <ℤ pos (2 ^ 60) = kept_small k in
     let fits : FitsSigned w128 k.radius = omega (arith, ints, low, small) in
-    let answer = answer_of old k ps c.args.p c.step_in_row.result stands c.take_radius.ensures.sections (simp to_z-of_z at c.take_radius.ensures.greatest) (simp to_z-of_z at c.step_in_row.ensures.output) in
-    simp to_z-of_z (reached_holds_signal old.sections ps c.args.p _ T constants xs ws w old.reached answer inside design signal)
+    let answer = answer_of old k ps c.args.p c.step_in_row.result stands c.take_radius.ensures.whole c.take_radius.ensures.sections (simp to_z-of_z at c.take_radius.ensures.greatest) (simp to_z-of_z at c.step_in_row.ensures.output) in
+    simp to_z-of_z (answer_holds_signal old.whole ps c.args.p _ T constants xs ws w answer inside design signal)
 
 pub returns-clause-width : goal.returns-clause-width
 returns-clause-width c = λ ps r stands all.
@@ -94,6 +105,6 @@ returns-clause-width c = λ ps r stands all.
     let low : pos 0 ≤ℤ k.radius = kept_low k in
     let small : k.radius <ℤ pos (2 ^ 60) = kept_small k in
     let fits : FitsSigned w128 k.radius = omega (arith, ints, low, small) in
-    let answer = answer_of old k ps c.args.p c.step_in_row.result stands c.take_radius.ensures.sections (simp to_z-of_z at c.take_radius.ensures.greatest) (simp to_z-of_z at c.step_in_row.ensures.output) in
+    let answer = answer_of old k ps c.args.p c.step_in_row.result stands c.take_radius.ensures.whole c.take_radius.ensures.sections (simp to_z-of_z at c.take_radius.ensures.greatest) (simp to_z-of_z at c.step_in_row.ensures.output) in
     let natural : pos 0 ≤ℤ r = ≤ℤ_trans c.requires.radius_low (All-head (λ (q : Point). q.radius ≤ℤ r) c.args.p ps all) in
-    simp to_z-of_z (answer_is_narrow (map gain_of old.sections) ps c.args.p _ r natural answer all)
+    simp to_z-of_z (answer_is_narrow old.whole ps c.args.p _ r natural answer all)

@@ -4,9 +4,9 @@ use Rattle.std.proofs.lemmas.Int.{to_z-of_z}
 use Rattle.flk_cert.specs.declared.coefs.Coefs.{Coefs}
 use Rattle.flk_cert.specs.Gain.{coefs_of, input_of, rounding_of}
 use Rattle.flk_cert.specs.RoundedSection.{State, state, output, after}
-use Rattle.flk_cert.specs.Bound.{IsErrorWithin as IsWithin}
+use Rattle.flk_cert.specs.Bound.{IsErrorWithin}
 use Rattle.flk_cert.proofs.GainLemmas.{gain_bounds}
-use Rattle.flk_section.specs.Kept.{as_state, IsReached}
+use Rattle.flk_section.specs.Kept.{as_state, IsReachedState}
 use Rattle.flk_section.proofs.SectionLemmas.{may_start}
 use Rattle.flk_section.proofs.RangeLemmas.{first_small, second_small, reached_after}
 use Rattle.flk_section.proofs.section.Section.step.Goals as goal
@@ -30,7 +30,7 @@ invariant_of-self c =
     let is : as_state c.state_after-self.result ≡ after k (as_state s.state) c.args.mid = made ∙ ap (λ (j : Coefs). after j (as_state s.state) c.args.mid) c.coefs-k.ensures in
     record {
       rests = s.rests;
-      reached = subst (λ (z : State). ∥ IsReached k s.from_one z ∥₁) (sym is) (reached_after k s.from_one (as_state s.state) c.args.mid c.requires.mid s.reached);
+      reached = subst (λ (z : State). ∥ IsReachedState k s.from_one z ∥₁) (sym is) (reached_after k s.from_one (as_state s.state) c.args.mid c.requires.mid s.reached);
     }
 
 pub returns-clause-enclosure : goal.returns-clause-enclosure
@@ -42,5 +42,5 @@ returns-clause-enclosure c = λ Xs w x y xs ys stands natural run near.
     let is : c.output_of-output.result ≡ output k (state k s.from_one Xs) c.args.mid =
     made ∙ ap (λ (j : Coefs). output j (as_state s.state) c.args.mid) c.coefs-k.ensures ∙ ap (λ (z : State). output k z c.args.mid) stands in
     let fits_result : FitsSigned w128 c.output_of-output.result = search rules in
-    subst (λ (z : ℤ). IsWithin (input_of s.gain) (rounding_of s.gain) w y z) (sym (to_z-of_z w128 c.output_of-output.result fits_result ∙ is))
+    subst (λ (z : ℤ). IsErrorWithin (input_of s.gain) (rounding_of s.gain) w y z) (sym (to_z-of_z w128 c.output_of-output.result fits_result ∙ is))
     (gain_bounds s.gain s.from_one w x y xs ys c.args.mid Xs (may_start k s.from_one s.rests) natural run near)
