@@ -9,4 +9,6 @@ pub mod WidthLemmas
 pub mod SeverityLemmas
 pub mod SeverityWidth
 pub mod LongTermLemmas
+pub mod SelectionLemmas
 pub mod LevelLemmas
+pub mod ShiftLemmas

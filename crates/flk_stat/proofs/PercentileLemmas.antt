@@ -28,7 +28,7 @@ use Rattle.flk_stat.proofs.RankLemmas.{IsOrder, by_truth, rank_clash, AllZip-its
 less-true : (x y : ℤ) → x <ℤ y → int_lt x y ≡ true
 less-true x y h = grind (arith, ints, h)
 
-less-false : (x y : ℤ) → y ≤ℤ x → int_lt x y ≡ false
+pub less-false : (x y : ℤ) → y ≤ℤ x → int_lt x y ≡ false
 less-false x y h = grind (arith, ints, h)
 
 false-at_most : (x y : ℤ) → int_lt x y ≡ false → y ≤ℤ x
@@ -179,7 +179,14 @@ rank_in k n some small levels =
     (omega arith, omega arith)
 
 -- so a percentile of ends is an end
-pub ranked_end : (xs : List ℤ) (k : ℕ) → All IsLevelEnd xs → 0 < length xs → 0 < k → k ≤ 1000 → IsLevelEnd (ranked_at xs k)
-ranked_end xs k ends some low high =
-    let within = rank_in k (length xs) low high some in
-    All-get_or IsLevelEnd xs (length xs - rank_of k (length xs)) (pos 0) (omega (arith, within.0, within.1)) ends
+pub ranked_end : (xs : List ℤ) (n k : ℕ) → All IsLevelEnd xs → 0 < n → 0 < k → k ≤ 1000 → rank_of k n ≤ length xs → IsLevelEnd (ranked_at xs n k)
+ranked_end xs n k ends some low high fits =
+    let within = rank_in k n low high some in
+    All-get_or IsLevelEnd xs (length xs - rank_of k n) (pos 0) (omega (arith, within.0, fits)) ends
+
+pub rank_of_≤ : (j k n : ℕ) → j ≤ k → rank_of j n ≤ rank_of k n
+rank_of_≤ j k n order =
+    let product : j * n ≤ k * n = mul-le-mul_right n order in
+    let low = ceil_least (j * n) 1000 (omega arith) in
+    let high = ceil_within (k * n) 1000 (omega arith) in
+    omega (arith, product, low, high)

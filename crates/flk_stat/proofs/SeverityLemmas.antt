@@ -3,12 +3,13 @@ use Rattle.std.proofs.Common.{◌≡◌, inl, inr, ℕ, zero, suc, ◌+◌, ◌*
 use Rattle.std.specs.Prelude.{negsuc}
 use Rattle.std.specs.Int.{int_min}
 use Rattle.std.specs.Int.RustNames.{unsigned_abs}
-use Rattle.std.specs.List.{AllZip, fold}
+use Rattle.std.specs.List.{All, AllZip, fold}
 use Rattle.std.specs.List.Sorted.{IsPermutation, IsSorted}
 use Rattle.std.specs.Ordering.{int_cmp}
 use Rattle.std.proofs.lemmas.Int.{ints, clamps, by_lt_z}
 use Rattle.std.proofs.lemmas.Nat.{mul-le}
 use Rattle.std.proofs.lemmas.List.{length-map}
+use Rattle.std.proofs.lemmas.List.Elements.{All-nil, All-cons, All-head, All-tail, All-contains}
 use Rattle.std.proofs.lemmas.List.Sorted.{length_permutation}
 use Rattle.flk_exact.specs.Rounding.{IsCeil, ceil_of, IsRootCeil}
 use Rattle.flk_exact.specs.Fraction.{Fraction, ◌≤ℚ◌, ◌+ℚ◌, ◌*ℚ◌, whole, units}
@@ -20,8 +21,8 @@ use Rattle.flk_exact.proofs.NumeratorLemmas.{IsOver, over_own, over_sum, over_ti
 use Rattle.flk_exact.proofs.ListLemmas.{AllZip-weaker, AllZip-joined, AllZip-length}
 use Rattle.flk_stat.specs.declared.severity.Share.{Share}
 use Rattle.flk_stat.specs.Rank.{HasRank, is_less, rank_of}
-use Rattle.flk_stat.specs.Severity.{shares, IsPercentile, ArePercentiles, weighted, Reaches, IsCappedLeast, cap, IsSeverity, IsSeverityOfEnds}
-use Rattle.flk_stat.specs.Ranked.{IsLevelEnd, ranked_at, weighted_total, ReachesSum}
+use Rattle.flk_stat.specs.Severity.{share, shares, IsPercentile, ArePercentiles, weighted, Reaches, IsCappedLeast, cap, IsSeverity, IsSeverityOfEnds}
+use Rattle.flk_stat.specs.Ranked.{IsLevelEnd, IsShare, AreWithin, ranked_at, weighted_total, IsWeightedSum, IsSumOfPercentiles, ReachesSum}
 use Rattle.flk_stat.proofs.RankLemmas.{rank-permutation, rank_exists, AllZip-itself}
 use Rattle.flk_stat.proofs.PercentileLemmas.{fraction_order, rank_order, rank_in_units, rank_at, rank_in}
 
@@ -215,46 +216,113 @@ pub part_of : (n : ℕ) (z : ℤ) → n ≤ 2 ^ 11 → IsLevelEnd z → IsPart n
 part_of n (pos m) light h = record { low = omega (arith, ints); high = omega (arith, ints, mul-le n m (2 ^ 11) (2 ^ 93) light (omega (arith, ints, h.high))) }
 part_of n (negsuc m) light h = absurd (omega (arith, ints, h.low))
 
--- the sum of percentiles in units
-abbrev total : List ℤ → List Share → ℤ
-total xs [] = pos 0
-total xs (s ∷ ss) = pos s.weight *ℤ ranked_at xs s.tenths +ℤ total xs ss
-
-sum_over : (xs : List ℤ) (ss : List Share) → IsOver (2 ^ 48) (weighted ss (map (λ s. units (ranked_at xs s.tenths)) ss)) (total xs ss)
-sum_over xs [] = record { is = refl }
-sum_over xs (s ∷ ss) =
-    let z = ranked_at xs s.tenths in
-    over_sum (2 ^ 48) _ _ (pos s.weight *ℤ z) (total xs ss) (over_times (2 ^ 48) (pos s.weight) (units z) z (over_own (units z))) (sum_over xs ss)
+-- ---- the sum of the percentiles
 
 sum_moved : (a b s : ℤ) → a +ℤ b +ℤ s ≡ a +ℤ (b +ℤ s)
 sum_moved a b s = omega (arith, ints)
 
-total_folded : (xs : List ℤ) (a : ℤ) (ss : List Share) → fold (λ sum s. sum +ℤ pos s.weight *ℤ ranked_at xs s.tenths) a ss ≡ a +ℤ total xs ss
-total_folded xs a [] = omega (arith, ints)
-total_folded xs a (s ∷ ss) = total_folded xs (a +ℤ pos s.weight *ℤ ranked_at xs s.tenths) ss ∙ sum_moved a (pos s.weight *ℤ ranked_at xs s.tenths) (total xs ss)
+abbrev total : List ℤ → (n : ℕ) → List Share → ℤ
+total xs n [] = pos 0
+total xs n (s ∷ ss) = pos s.weight *ℤ ranked_at xs n s.tenths +ℤ total xs n ss
 
-total_is : (xs : List ℤ) (ss : List Share) → weighted_total xs ss ≡ total xs ss
-total_is xs ss = let e = total_folded xs (pos 0) ss in omega (arith, ints, e)
+total_folded : (xs : List ℤ) (n : ℕ) (a : ℤ) (ss : List Share) → fold (λ sum s. sum +ℤ pos s.weight *ℤ ranked_at xs n s.tenths) a ss ≡ a +ℤ total xs n ss
+total_folded xs n a [] = omega (arith, ints)
+total_folded xs n a (s ∷ ss) = total_folded xs n (a +ℤ pos s.weight *ℤ ranked_at xs n s.tenths) ss ∙ sum_moved a (pos s.weight *ℤ ranked_at xs n s.tenths) (total xs n ss)
 
-ranked_is : (xs : List ℤ) (k : ℕ) → 0 < length xs → IsSorted int_cmp xs → 0 < k → k ≤ 1000 → IsPercentile (map units xs) k (units (ranked_at xs k))
-ranked_is xs k some rises low high =
-    let b = rank_in k (length xs) low high some in
-    let r = rank_at xs (rank_of k (length xs)) (pos 0) rises b.0 b.1 in
-    subst (λ (n : ℕ). HasRank is_less (rank_of k n) (map units xs) (units (ranked_at xs k))) (sym (length-map xs units)) (rank_in_units (rank_of k (length xs)) xs (ranked_at xs k) r)
+total_is : (xs : List ℤ) (n : ℕ) (ss : List Share) → weighted_total xs n ss ≡ total xs n ss
+total_is xs n ss = let e = total_folded xs n (pos 0) ss in omega (arith, ints, e)
 
-ranked_each : (xs : List ℤ) (ss : List Share) → 0 < length xs → IsSorted int_cmp xs → AreTenths ss → ArePercentiles ss (map units xs) (map (λ s. units (ranked_at xs s.tenths)) ss)
-ranked_each xs [] some rises h = tt
-ranked_each xs (s ∷ ss) some rises h = (ranked_is xs s.tenths some rises h.0 h.1, ranked_each xs ss some rises h.2)
+without : (a b : ℤ) → b ≡ (a +ℤ b) -ℤ a
+without a b = omega (arith, ints)
 
-pub severity_is : (rising : List ℤ) (X w : ℤ) → 0 < length rising → IsSorted int_cmp rising → X ≡ weighted_total rising shares → IsCappedLeast (ReachesSum X) cap w
-    → IsSeverityOfEnds rising w
-severity_is rising X w some rises sum least = record {
-  percentiles = map (λ s. units (ranked_at rising s.tenths)) shares;
-  are_percentiles = ranked_each rising shares some rises tenths;
-  is_least =
-      least_in_units (weighted shares (map (λ s. units (ranked_at rising s.tenths)) shares)) X w
-      (subst (λ (z : ℤ). IsOver (2 ^ 48) (weighted shares (map (λ s. units (ranked_at rising s.tenths)) shares)) z) (sym (sum ∙ total_is rising shares)) (sum_over rising shares)) least;
-}
+ranked_total : (xs : List ℤ) (n : ℕ) (ss : List Share) → 0 < n → IsSorted int_cmp xs → All IsShare ss → AreWithin n (length xs) ss → IsWeightedSum n ss xs (total xs n ss)
+ranked_total xs n [] some rises h fits = refl
+ranked_total xs n (s ∷ ss) some rises h fits =
+    let first = All-head IsShare s ss h in
+    let fit = All-head (λ t. rank_of t.tenths n ≤ length xs) s ss fits in
+    let b = rank_in s.tenths n first.low first.high some in
+    let part = pos s.weight *ℤ ranked_at xs n s.tenths in (
+      ranked_at xs n s.tenths,
+      rank_at xs (rank_of s.tenths n) (pos 0) rises b.0 fit,
+      subst (λ (z : ℤ). IsWeightedSum n ss xs z) (without part (total xs n ss))
+          (ranked_total xs n ss some rises (All-tail IsShare s ss h) (All-tail (λ t. rank_of t.tenths n ≤ length xs) s ss fits)),
+    )
+
+-- in rising order
+pub rising_total : (xs : List ℤ) (n : ℕ) (ss : List Share) (sum : ℤ) → 0 < n → IsSorted int_cmp xs → All IsShare ss → AreWithin n (length xs) ss → sum ≡ weighted_total xs n ss
+    → IsWeightedSum n ss xs sum
+rising_total xs n ss sum some rises h fits is =
+    subst (λ (z : ℤ). IsWeightedSum n ss xs z) (sym (is ∙ total_is xs n ss)) (ranked_total xs n ss some rises h fits)
+
+-- the percentiles of such a sum
+record HavePercentiles (n : ℕ) (ss : List Share) (levels : List ℤ) (sum : ℤ) : Type 0 where
+  percentiles : List Fraction
+  ranked : AllZip (λ s v. HasRank is_less (rank_of s.tenths n) (map units levels) v) ss percentiles
+  over : IsOver (2 ^ 48) (weighted ss percentiles) sum
+
+over_rest : (n : ℕ) (v z : ℤ) → pos n *ℤ v +ℤ (z -ℤ pos n *ℤ v) ≡ z
+over_rest n v z = omega (arith, ints)
+
+have_percentiles : (n : ℕ) (ss : List Share) (levels : List ℤ) (sum : ℤ) → IsWeightedSum n ss levels sum → HavePercentiles n ss levels sum
+have_percentiles n [] levels sum h = record { percentiles = []; ranked = tt; over = subst (λ (z : ℤ). IsOver (2 ^ 48) (weighted [] []) z) (sym h) (record { is = refl }) }
+have_percentiles n (s ∷ ss) levels sum h =
+    let v = h.0 in
+    let rest = have_percentiles n ss levels (sum -ℤ pos s.weight *ℤ v) h.2 in
+    record {
+      percentiles = units v ∷ rest.percentiles;
+      ranked = (rank_in_units (rank_of s.tenths n) levels v h.1, rest.ranked);
+      over =
+          subst (λ (z : ℤ). IsOver (2 ^ 48) (weighted (s ∷ ss) (units v ∷ rest.percentiles)) z) (over_rest s.weight v sum)
+          (over_sum (2 ^ 48) _ _ (pos s.weight *ℤ v) (sum -ℤ pos s.weight *ℤ v) (over_times (2 ^ 48) (pos s.weight) (units v) v (over_own (units v))) rest.over);
+    }
+
+pub severity_is : (levels : List ℤ) (sum w : ℤ) → IsSumOfPercentiles levels sum → IsCappedLeast (ReachesSum sum) cap w → IsSeverityOfEnds levels w
+severity_is levels sum w is least =
+    let h = have_percentiles (length levels) shares levels sum is.is in
+    record {
+      percentiles = h.percentiles;
+      are_percentiles =
+          subst (λ (n : ℕ). AllZip (λ s v. HasRank is_less (rank_of s.tenths n) (map units levels) v) shares h.percentiles) (sym (length-map levels units)) h.ranked;
+      is_least = least_in_units (weighted shares h.percentiles) sum w h.over least;
+    }
+
+-- how great it is
+record IsSmallSum (k : ℕ) (sum : ℤ) : Type 0 where
+  low : pos 0 ≤ℤ sum
+  high : sum ≤ℤ pos (k * 2 ^ 104)
+
+small_sum : (n : ℕ) (ss : List Share) (levels : List ℤ) (sum : ℤ) → All IsLevelEnd levels → All IsShare ss → IsWeightedSum n ss levels sum → IsSmallSum (length ss) sum
+small_sum n [] levels sum ends h is = record { low = omega (arith, ints, is); high = omega (arith, ints, is) }
+small_sum n (s ∷ ss) levels sum ends h is =
+    let first = All-head IsShare s ss h in
+    let here = part_of s.weight is.0 first.light (All-contains IsLevelEnd levels is.0 ends is.1.member) in
+    let rest = small_sum n ss levels (sum -ℤ pos s.weight *ℤ is.0) ends (All-tail IsShare s ss h) is.2 in
+    record { low = omega (arith, ints, here.low, rest.low); high = omega (arith, ints, here.high, rest.high) }
+
+share_in : (k n : ℕ) → 0 < k → k ≤ 1000 → n ≤ 2 ^ 11 → IsShare (share k n)
+share_in k n low high light = record { low = low; high = high; light = light }
+
+abbrev AreShares : List Share → Type 0
+AreShares [] = Unit {0}
+AreShares (s ∷ ss) = IsShare s × AreShares ss
+
+each_share : (ss : List Share) → AreShares ss → All IsShare ss
+each_share [] h = All-nil IsShare
+each_share (s ∷ ss) h = All-cons IsShare s ss h.0 (each_share ss h.1)
+
+standard_shares : AreShares shares
+standard_shares = (share_in 1 942 (omega arith) (omega arith) (omega arith), (share_in 7 525 (omega arith) (omega arith) (omega arith), (share_in 10 525 (omega arith) (omega arith) (omega arith), (share_in 15 525 (omega arith) (omega arith) (omega arith), (share_in 22 657 (omega arith) (omega arith) (omega arith), (share_in 30 657 (omega arith) (omega arith) (omega arith), (share_in 40 657 (omega arith) (omega arith) (omega arith), (share_in 60 1680 (omega arith) (omega arith) (omega arith), (share_in 80 1680 (omega arith) (omega arith) (omega arith), (share_in 100 1680 (omega arith) (omega arith) (omega arith), (share_in 130 1680 (omega arith) (omega arith) (omega arith), (share_in 170 1680 (omega arith) (omega arith) (omega arith), (share_in 300 800 (omega arith) (omega arith) (omega arith), (share_in 500 800 (omega arith) (omega arith) (omega arith), (share_in 800 800 (omega arith) (omega arith) (omega arith), tt)))))))))))))))
+
+pub all_shares : All IsShare shares
+all_shares = each_share shares standard_shares
+
+pub sum_small : (levels : List ℤ) (sum : ℤ) → All IsLevelEnd levels → IsSumOfPercentiles levels sum → (pos 0 ≤ℤ sum) × (sum ≤ℤ pos (2 ^ 108))
+sum_small levels sum ends is =
+    let s = small_sum (length levels) shares levels sum ends all_shares is.is in
+    (s.low, omega (arith, ints, s.high))
+
+pub within_itself : (n : ℕ) (ss : List Share) → 0 < n → All IsShare ss → AreWithin n n ss
+within_itself n ss some h = λ i d less. (let s = h i d less in (rank_in _ n s.low s.high some).1)
 
 bounded : (q X : ℤ) → pos 0 ≤ℤ X → X ≤ℤ pos (2 ^ 108) → (X *ℤ pos 6103515625) ≤ℤ (q *ℤ pos 51539607552) → (q *ℤ pos 51539607552 -ℤ pos 51539607552) <ℤ (X *ℤ pos 6103515625)
     → unsigned_abs q < 2 ^ 126

@@ -1,8 +1,11 @@
 -- The ends of levels, in units of 2^-48, and what the code makes of them.
-use Rattle.std.specs.Prelude.{ℕ, ◌-◌, ◌^◌, ◌<◌, ◌≤◌, List, length, slice_index_or, ℤ, pos, ◌+ℤ◌, ◌*ℤ◌, ◌≤ℤ◌, ◌<ℤ◌}
-use Rattle.std.specs.List.{fold}
+use Rattle.std.specs.Prelude.{◌≡◌, ℕ, ◌+◌, ◌-◌, ◌^◌, ◌<◌, ◌≤◌, List, [], ◌∷◌, ◌++◌, length, int_lt, slice_index_or, ℤ, pos, ◌+ℤ◌, ◌-ℤ◌, ◌*ℤ◌, ◌≤ℤ◌, ◌<ℤ◌}
+use Rattle.std.specs.List.{All, fold}
+use Rattle.std.specs.List.Sorted.{IsPermutation, IsSplitAround}
+use Rattle.std.specs.Ordering.{int_cmp}
 use Rattle.flk_stat.specs.declared.severity.Share.{Share}
-use Rattle.flk_stat.specs.Rank.{rank_of}
+use Rattle.flk_stat.specs.Rank.{HasRank, rank_of}
+use Rattle.flk_stat.specs.Severity.{shares}
 
 -- an end of a level is from 0 to below 2^93
 pub record IsLevelEnd (z : ℤ) : Type 0 where
@@ -13,9 +16,9 @@ pub record IsLevelEnd (z : ℤ) : Type 0 where
 abbrev pub AreBelow : (xs ys : List ℤ) → Type 0
 AreBelow xs ys = (i : ℕ) (d : ℤ) → slice_index_or xs i d ≤ℤ slice_index_or ys i d
 
--- where the percentile of k tenths of a percent stands in a list in rising order
-abbrev pub ranked_at : List ℤ → ℕ → ℤ
-ranked_at rising k = slice_index_or rising (length rising - rank_of k (length rising)) (pos 0)
+-- where the percentile of k tenths of a percent of n levels stands in a list of the greatest of them in rising order
+abbrev pub ranked_at : List ℤ → (n k : ℕ) → ℤ
+ranked_at rising n k = slice_index_or rising (length rising - rank_of k n) (pos 0)
 
 -- a share that a sum of 128 bits may take
 pub record IsShare (s : Share) : Type 0 where
@@ -28,5 +31,28 @@ abbrev pub ReachesSum : ℤ → ℤ → Type 0
 ReachesSum sum w = (sum *ℤ pos 6103515625) ≤ℤ ((w *ℤ w) *ℤ pos 51539607552)
 
 -- the sum of the percentiles of some shares, each times its weight
-abbrev pub weighted_total : List ℤ → List Share → ℤ
-weighted_total rising ss = fold (λ sum s. sum +ℤ pos s.weight *ℤ ranked_at rising s.tenths) (pos 0) ss
+abbrev pub weighted_total : List ℤ → (n : ℕ) → List Share → ℤ
+weighted_total rising n ss = fold (λ sum s. sum +ℤ pos s.weight *ℤ ranked_at rising n s.tenths) (pos 0) ss
+
+-- the ranks of some shares among n levels are among those of m
+abbrev pub AreWithin : (n m : ℕ) → List Share → Type 0
+AreWithin n m ss = All (λ s. rank_of s.tenths n ≤ m) ss
+
+-- The same sum by ranks, of levels in any order: their ranks are those among n levels.
+abbrev pub IsWeightedSum : (n : ℕ) → List Share → List ℤ → ℤ → Type 0
+IsWeightedSum n [] levels sum = sum ≡ pos 0
+IsWeightedSum n (s ∷ ss) levels sum =
+    (v : ℤ) × HasRank int_lt (rank_of s.tenths n) levels v × IsWeightedSum n ss levels (sum -ℤ pos s.weight *ℤ v)
+
+-- the sum of all percentiles of the severity
+pub record IsSumOfPercentiles (levels : List ℤ) (sum : ℤ) : Type 0 where
+  pub is : IsWeightedSum (length levels) shares levels sum
+
+-- of the levels the share's percentile x was selected: `part` is x times the weight, and `above` are the levels that it stands before
+pub record IsSelected (n : ℕ) (s : Share) (levels : List ℤ) (part : ℤ) (above : List ℤ) : Type 0 where
+  pub front : List ℤ
+  pub x : ℤ
+  pub moved : IsPermutation levels (front ++ x ∷ above)
+  pub split : IsSplitAround int_cmp front x above
+  pub place : length above + 1 ≡ rank_of s.tenths n
+  pub weighed : part ≡ pos s.weight *ℤ x

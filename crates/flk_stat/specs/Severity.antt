@@ -14,8 +14,12 @@ share k n = record { tenths = k; weight = n }
 -- and P4, P10s that of P6, P8, P10, P13 and P17, and P50s that of P30, P50 and P80.
 abbrev pub shares : List Share
 shares =
-    share 1 942 ∷ share 7 525 ∷ share 10 525 ∷ share 15 525 ∷ share 22 657 ∷ share 30 657 ∷ share 40 657 ∷ share 60 1680 ∷ share 80 1680
-    ∷ share 100 1680 ∷ share 130 1680 ∷ share 170 1680 ∷ share 300 800 ∷ share 500 800 ∷ share 800 800 ∷ []
+    share 1 942
+    ∷ share 7 525 ∷ share 10 525 ∷ share 15 525
+    ∷ share 22 657 ∷ share 30 657 ∷ share 40 657
+    ∷ share 60 1680 ∷ share 80 1680 ∷ share 100 1680 ∷ share 130 1680 ∷ share 170 1680
+    ∷ share 300 800 ∷ share 500 800 ∷ share 800 800
+    ∷ []
 
 -- v is exceeded during k tenths of a percent of the time
 abbrev pub IsPercentile : List Fraction → ℕ → Fraction → Type 0

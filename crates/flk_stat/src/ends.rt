@@ -1,13 +1,13 @@
 //! The rounded steps of the smoothing: each takes two ends and answers two ends.
 
-ghost use Rattle.std.specs.Prelude.{◌≡◌, ◌*◌, ◌/◌, ◌^◌, ◌<◌, ◌≤◌, pos, ◌+ℤ◌, ◌-ℤ◌, ◌≤ℤ◌, ◌<ℤ◌};
-ghost use Rattle.std.specs.Int.{div_ceil};
+ghost use Rattle.std.specs.Prelude.{◌≡◌, ◌+◌, ◌-◌, ◌*◌, ◌/◌, ◌^◌, ◌<◌, ◌≤◌, pos, ◌+ℤ◌, ◌-ℤ◌, ◌*ℤ◌, ◌≤ℤ◌, ◌<ℤ◌};
+ghost use Rattle.std.specs.Int.{div_ceil, int_shr};
 ghost use Rattle.std.specs.Int.RustNames.{unsigned_abs};
+ghost use Rattle.flk_num.specs.Square.{least_size, greatest_size};
 ghost use Rattle.flk_stat.specs.Smoothing.{scale};
 ghost use Rattle.flk_stat.specs.Rounded.{squares_of, scaled_of, next_level};
 
 use flk_front::Point;
-use flk_num::{Interval, square_out};
 
 /// A lower and an upper end, in one unit.
 #[derive(Clone, Copy, Debug, PartialEq, Eq)]
@@ -19,33 +19,27 @@ pub struct Ends {
 // By which a square is multiplied.
 const SCALE: u128 = 310_700;
 
-// The point as an interval.
-fn reach(w: Point) -> Interval
+// The least and the greatest size of a signal of the point, in units of 2^-48.
+fn sizes(w: Point) -> (u64, u64)
     requires radius { pos 0 ≤ℤ w.radius }
     requires small { (pos (unsigned_abs w.mid) +ℤ w.radius) <ℤ pos (2 ^ 61) }
-    ensures lo { result.lo ≡ w.mid -ℤ w.radius }
-    ensures hi { result.hi ≡ w.mid +ℤ w.radius }
+    ensures least { result.0 ≡ least_size (w.mid -ℤ w.radius) (w.mid +ℤ w.radius) }
+    ensures greatest { result.1 ≡ greatest_size (w.mid -ℤ w.radius) (w.mid +ℤ w.radius) }
+    ensures ordered { result.0 ≤ result.1 }
+    ensures small { result.1 < 2 ^ 61 }
 {
-    Interval {
-        lo: w.mid - w.radius,
-        hi: w.mid + w.radius,
-    }
+    let size = (w.mid as i64).unsigned_abs();
+    let radius = w.radius as u64;
+    (size.saturating_sub(radius), size + radius)
 }
 
-// The least and the greatest square of a signal of the point, in units of 2^-96.
-fn exact_squares(w: Point) -> Ends
-    requires radius { pos 0 ≤ℤ w.radius }
-    requires small { (pos (unsigned_abs w.mid) +ℤ w.radius) <ℤ pos (2 ^ 61) }
-    ensures least { result.lo ≡ (squares_of w).lo }
-    ensures greatest { result.hi ≡ (squares_of w).hi }
-    ensures ordered { result.lo ≤ result.hi }
-    ensures small { result.hi < 2 ^ 122 }
+// The square of a size, in units of 2^-96.
+fn square(size: u64) -> u128
+    requires { size < 2 ^ 61 }
+    ensures value { result ≡ size * size }
+    ensures small { result < 2 ^ 122 }
 {
-    let squares = square_out(reach(w));
-    Ends {
-        lo: squares.lo.unsigned_abs(),
-        hi: squares.hi.unsigned_abs(),
-    }
+    u128::from(size) * u128::from(size)
 }
 
 // The scaled square in units of 2^-48, rounded down.
@@ -72,11 +66,46 @@ pub fn scaled_squares(w: Point) -> Ends
     ensures ordered { result.lo ≤ result.hi }
     ensures small { result.hi < 2 ^ 93 }
 {
-    let squares = exact_squares(w);
+    let (least, greatest) = sizes(w);
     Ends {
-        lo: scaled_down(squares.lo),
-        hi: scaled_up(squares.hi),
+        lo: scaled_down(square(least)),
+        hi: scaled_up(square(greatest)),
     }
+}
+
+// A part of what is between two numbers, in parts of 2^32, rounded down.
+fn part_between(number: u64, from: i128, to: i128) -> i128
+    requires number { number ≤ 2 ^ 32 }
+    requires from_low { pos 0 ≤ℤ from }
+    requires from_high { from <ℤ pos (2 ^ 93) }
+    requires to_low { pos 0 ≤ℤ to }
+    requires to_high { to <ℤ pos (2 ^ 93) }
+    ensures part { result ≡ int_shr (pos number *ℤ (to -ℤ from)) 32 }
+    ensures small { unsigned_abs result ≤ 2 ^ 94 }
+{
+    (i128::from(number) * (to - from)) >> 32
+}
+
+// An end that moves from the level toward the square by `number` parts in 2^32 of what is between them, rounded down.
+fn moved_down(number: u64, level: u128, square: u128) -> u128
+    requires number { number ≤ 2 ^ 32 }
+    requires small { level < 2 ^ 93 }
+    requires square_small { square < 2 ^ 93 }
+    ensures { result ≡ ((2 ^ 32 - number) * level + number * square) / 2 ^ 32 }
+{
+    let level = level as i128;
+    (level + part_between(number, level, square as i128)) as u128
+}
+
+// The same, rounded up.
+fn moved_up(number: u64, level: u128, square: u128) -> u128
+    requires number { number ≤ 2 ^ 32 }
+    requires small { level < 2 ^ 93 }
+    requires square_small { square < 2 ^ 93 }
+    ensures { result ≡ div_ceil ((2 ^ 32 - number) * level + number * square) (2 ^ 32) }
+{
+    let level = level as i128;
+    (level - part_between(number, square as i128, level)) as u128
 }
 
 /// The level after a sample with these scaled squares, in units of 2^-48, where the squares count for `number` parts in 2^32.
@@ -90,10 +119,8 @@ pub fn level_after(number: u64, level: Ends, square: Ends) -> Ends
     ensures ordered { result.lo ≤ result.hi }
     ensures small { result.hi < 2 ^ 93 }
 {
-    let part = u128::from(number);
-    let rest = (1 << 32) - part;
     Ends {
-        lo: (rest * level.lo + part * square.lo) >> 32,
-        hi: (rest * level.hi + part * square.hi).div_ceil(1 << 32),
+        lo: moved_down(number, level.lo, square.lo),
+        hi: moved_up(number, level.hi, square.hi),
     }
 }

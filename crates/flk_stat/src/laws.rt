@@ -24,8 +24,8 @@ pub fn signal_has_levels()
 /// Every list of points has one list of level intervals.
 pub fn points_have_levels()
     ensures exists { (c : ℕ) (ws : List Point) → (vs : List Interval) × AreLevelIntervals c ws vs }
-    ensures unique { (c : ℕ) (ws : List Point) (us vs : List Interval) → AreLevelIntervals c ws us → AreLevelIntervals c ws vs
-        → us ≡ vs }
+    ensures unique { (c : ℕ) (ws : List Point) (us vs : List Interval) → AreLevelIntervals c ws us
+        → AreLevelIntervals c ws vs → us ≡ vs }
 {}
 
 /// Each level interval holds the exact level of every signal that lies in the points. (c is at most one, over 2^32.)
@@ -47,8 +47,8 @@ pub fn rank_is_one()
     ensures unique { (k : ℕ) (xs : List ℤ) (v w : ℤ) → HasRank int_lt k xs v → HasRank int_lt k xs w → v ≡ w }
     ensures fraction_exists { (k : ℕ) (xs : List Fraction) → 1 ≤ k → k ≤ length xs
         → (v : Fraction) × HasRank is_less k xs v }
-    ensures fraction_unique { (k : ℕ) (xs : List Fraction) (v w : Fraction) → HasRank is_less k xs v → HasRank is_less k xs w
-        → v ≈ℚ w }
+    ensures fraction_unique { (k : ℕ) (xs : List Fraction) (v w : Fraction) → HasRank is_less k xs v
+        → HasRank is_less k xs w → v ≈ℚ w }
 {}
 
 /// Where each number of a list is at most the one of another list at the same place, the number of rank k of the first is at most that of

@@ -11,7 +11,8 @@ ghost use Rattle.flk_stat.specs.Width.{IsSpread, severity_width};
 ghost use Rattle.flk_stat.specs.Ranked.{IsLevelEnd, AreBelow};
 
 use crate::OutOfMemory;
-use crate::severity::pst;
+use crate::selection::percentile_sum;
+use crate::severity::capped_root;
 use flk_num::Interval;
 use std::alloc::Global;
 
@@ -23,8 +24,7 @@ fn severity_of(levels: &mut Vec<i128>) -> i128
     ensures empty { levels.new.items ≡ [] }
     ensures capacity { vec_capacity levels.new ≡ vec_capacity levels.old }
 {
-    levels.sort_unstable();
-    let severity = pst(levels);
+    let severity = capped_root(percentile_sum(levels));
     levels.clear();
     severity
 }
@@ -128,7 +128,8 @@ impl Levels {
         ensures holds { (n : ℕ) (ls : List IntervalView) (ps : List Fraction) (w : ℤ) → Added self.old n ls
             → HoldEach ls ps → IsSeverity ps w → IsBetween result.lo result.hi w }
         ensures narrow { (n : ℕ) (ls : List IntervalView) (bound : Fraction) → Added self.old n ls
-            → units (pos (2 ^ 24)) ≤ℚ bound → All (IsSpread bound) ls → whole (result.hi -ℤ result.lo) ≤ℚ severity_width bound }
+            → units (pos (2 ^ 24)) ≤ℚ bound → All (IsSpread bound) ls
+            → whole (result.hi -ℤ result.lo) ≤ℚ severity_width bound }
         ensures low { pos 0 ≤ℤ result.lo }
         ensures high { result.hi ≤ℤ cap }
     {

@@ -14,6 +14,7 @@ mod laws;
 mod levels;
 mod long_term;
 mod rank;
+mod selection;
 mod severity;
 mod smooth;
 

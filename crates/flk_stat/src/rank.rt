@@ -6,8 +6,8 @@ ghost use Rattle.std.specs.Ordering.{int_cmp};
 ghost use Rattle.flk_stat.specs.Rank.{HasRank, rank_of};
 ghost use Rattle.flk_stat.specs.Ranked.{ranked_at};
 
-// The rank of the percentile of k tenths of a percent among n levels.
-fn rank(k: u16, n: usize) -> usize
+/// The rank of the percentile of k tenths of a percent among n levels.
+pub(crate) fn rank(k: u16, n: usize) -> usize
     requires low { 1 ≤ k }
     requires high { k ≤ 1000 }
     requires some { 0 < n }
@@ -19,14 +19,15 @@ fn rank(k: u16, n: usize) -> usize
     (u128::from(k) * n as u128).div_ceil(1000) as usize
 }
 
-/// The level where the percentile of k tenths of a percent stands.
-pub(crate) fn ranked(rising: &[i128], k: u16) -> i128
-    requires some { 0 < length rising.now }
+/// The level where the percentile of k tenths of a percent of n levels stands among the greatest of them.
+pub(crate) fn ranked(rising: &[i128], n: usize, k: u16) -> i128
+    requires some { 0 < n }
     requires low { 1 ≤ k }
     requires high { k ≤ 1000 }
-    ensures { result ≡ ranked_at rising.now k }
+    requires within { rank_of k n ≤ length rising.now }
+    ensures { result ≡ ranked_at rising.now n k }
 {
-    rising[rising.len() - rank(k, rising.len())]
+    rising[rising.len() - rank(k, n)]
 }
 
 /// The percentile of k tenths of a percent: the level that is exceeded during that share of the time, by IEC 61000-4-15. It is the one of
@@ -39,5 +40,5 @@ pub fn percentile(rising: &[i128], k: u16) -> i128
     requires high { k ≤ 1000 }
     ensures { HasRank int_lt (rank_of k (length rising.now)) rising.now result }
 {
-    ranked(rising, k)
+    ranked(rising, rising.len(), k)
 }

@@ -4,8 +4,9 @@ ghost use Rattle.std.specs.Prelude.{◌≡◌, ◌*◌, ◌^◌, ◌<◌, ◌≤
 ghost use Rattle.std.specs.List.{All};
 ghost use Rattle.std.specs.List.Sorted.{IsSorted};
 ghost use Rattle.std.specs.Ordering.{int_cmp};
-ghost use Rattle.flk_stat.specs.Severity.{shares, IsCappedLeast, cap, IsSeverityOfEnds};
-ghost use Rattle.flk_stat.specs.Ranked.{IsLevelEnd, IsShare, ranked_at, weighted_total, ReachesSum};
+ghost use Rattle.flk_stat.specs.Severity.{IsCappedLeast, cap, IsSeverityOfEnds};
+ghost use Rattle.flk_stat.specs.Ranked.{IsLevelEnd, IsShare, AreWithin, ranked_at, weighted_total, IsSumOfPercentiles, ReachesSum};
+ghost use Rattle.flk_stat.specs.Rank.{rank_of};
 
 use crate::rank::ranked;
 use flk_num::{root_ceil, scaled_ceil};
@@ -19,8 +20,8 @@ pub struct Share {
     pub weight: u16,
 }
 
-// The percentiles of the standard.
-const SHARES: [Share; 15] = [
+/// The percentiles of the standard.
+pub(crate) const SHARES: [Share; 15] = [
     Share {
         tenths: 1,
         weight: 942,
@@ -83,31 +84,45 @@ const SHARES: [Share; 15] = [
     },
 ];
 
-// A percentile, times its weight.
-fn part(rising: &[i128], share: Share) -> i128
-    requires some { 0 < length rising.now }
-    requires levels { All IsLevelEnd rising.now }
+// A level, times the weight of its share.
+pub(crate) fn weighed(level: i128, share: Share) -> i128
+    requires level { IsLevelEnd level }
     requires share { IsShare share }
-    ensures value { result ≡ pos share.weight *ℤ ranked_at rising.now share.tenths }
+    ensures value { result ≡ pos share.weight *ℤ level }
     ensures low { pos 0 ≤ℤ result }
     ensures high { result ≤ℤ pos (2 ^ 104) }
 {
-    i128::from(share.weight) * ranked(rising, share.tenths)
+    i128::from(share.weight) * level
 }
 
-// The sum of some percentiles, each times its weight.
-fn weighted_sum(rising: &[i128], shares: &[Share]) -> i128
-    requires some { 0 < length rising.now }
+// A percentile of n levels, of which the greatest are given, times its weight.
+fn part(rising: &[i128], n: usize, share: Share) -> i128
+    requires some { 0 < n }
+    requires levels { All IsLevelEnd rising.now }
+    requires share { IsShare share }
+    requires within { rank_of share.tenths n ≤ length rising.now }
+    ensures value { result ≡ pos share.weight *ℤ ranked_at rising.now n share.tenths }
+    ensures low { pos 0 ≤ℤ result }
+    ensures high { result ≤ℤ pos (2 ^ 104) }
+{
+    weighed(ranked(rising, n, share.tenths), share)
+}
+
+/// The sum of some percentiles of n levels, each times its weight. The greatest of the levels are given in rising order, as many as the
+/// percentiles need.
+pub(crate) fn weighted_sum(rising: &[i128], n: usize, shares: &[Share]) -> i128
+    requires some { 0 < n }
     requires levels { All IsLevelEnd rising.now }
     requires shares { All IsShare shares.now }
+    requires within { AreWithin n (length rising.now) shares.now }
     requires few { length shares.now ≤ 15 }
-    ensures value { result ≡ weighted_total rising.now shares.now }
+    ensures value { result ≡ weighted_total rising.now n shares.now }
     ensures low { pos 0 ≤ℤ result }
     ensures high { result ≤ℤ pos (2 ^ 108) }
 {
     let mut sum: i128 = 0;
     for share in shares {
-        sum += part(rising, *share);
+        sum += part(rising, n, *share);
     }
     sum
 }
@@ -115,14 +130,26 @@ fn weighted_sum(rising: &[i128], shares: &[Share]) -> i128
 // 1000, in billionths.
 const CAP: i128 = 1_000_000_000_000;
 
-// The root of a weighted sum of percentiles in units of 2^-48 over 30000, in billionths, rounded up, and at most the cap.
-fn capped_root(sum: i128) -> i128
+/// The root of a weighted sum of percentiles in units of 2^-48 over 30000, in billionths, rounded up, and at most the cap.
+pub(crate) fn capped_root(sum: i128) -> i128
     requires low { pos 0 ≤ℤ sum }
     requires high { sum ≤ℤ pos (2 ^ 108) }
     ensures { IsCappedLeast (ReachesSum sum) cap result }
 {
     // `10^18 / (30000 * 2^48)` is `5^14 / (3 * 2^34)`
     root_ceil(scaled_ceil(sum, 6_103_515_625, 51_539_607_552)).min(CAP)
+}
+
+/// The sum of the percentiles of levels in rising order, each times its weight.
+pub(crate) fn rising_sum(rising: &[i128]) -> i128
+    requires some { 0 < length rising.now }
+    requires rises { IsSorted int_cmp rising.now }
+    requires levels { All IsLevelEnd rising.now }
+    ensures sum { IsSumOfPercentiles rising.now result }
+    ensures low { pos 0 ≤ℤ result }
+    ensures high { result ≤ℤ pos (2 ^ 108) }
+{
+    weighted_sum(rising, rising.len(), &SHARES)
 }
 
 /// The short-term severity Pst of IEC 61000-4-15, in billionths, from 0 to 10^12: the square root of the weighted sum of 15 percentiles,
@@ -134,5 +161,5 @@ pub fn pst(rising: &[i128]) -> i128
     requires levels { All IsLevelEnd rising.now }
     ensures { IsSeverityOfEnds rising.now result }
 {
-    capped_root(weighted_sum(rising, &SHARES))
+    capped_root(rising_sum(rising))
 }

@@ -88,7 +88,8 @@ impl Smooth {
         ensures low { pos 0 ≤ℤ result.lo }
         ensures high { result.hi <ℤ pos (2 ^ 93) }
         ensures holds { (ws : List PointView) (xs ps : List Fraction) (p : Fraction) → Stands self.old ws
-            → AllZip IsWithin (w ∷ ws) xs → AreLevels (smoothing_number (rate_of self.old)) xs (p ∷ ps) → Holds result p }
+            → AllZip IsWithin (w ∷ ws) xs → AreLevels (smoothing_number (rate_of self.old)) xs (p ∷ ps)
+            → Holds result p }
         ensures narrow { (ws : List PointView) (bound : Fraction) → Stands self.old ws → units (pos (2 ^ 24)) ≤ℚ bound
             → All (BoundsRadius bound) (w ∷ ws) → IsSpread bound result }
     {

@@ -175,3 +175,40 @@ fn levels_of_one_interval(rt: HostRuntime) -> Result<(), Fail> {
     );
     Ok(())
 }
+
+// Adds a level of so many parts in 1024 and its upper end, where there is room.
+fn add_level(levels: &mut Levels, parts: u32) {
+    if 0 < levels.room() {
+        let lo = i128::from(parts) * 274_877_906_944;
+        levels.add(Interval {
+            lo,
+            hi: lo + 1_048_576,
+        });
+    }
+}
+
+// The severity of an interval whose room is used up.
+fn severity_at_end(levels: &mut Levels) -> Option<Interval> {
+    if levels.room() == 0 {
+        Some(levels.end())
+    } else {
+        None
+    }
+}
+
+// As many levels as are selected from.
+#[test]
+fn levels_in_no_order(rt: HostRuntime) -> Result<(), Fail> {
+    let mut levels = Levels::new(rt.alloc(), 1999)?;
+    for i in 0..1999u32 {
+        add_level(&mut levels, i * 700 % 1999);
+    }
+    assert_eq!(rt;
+        severity_at_end(&mut levels),
+        Some(Interval {
+            lo: 920_504_632,
+            hi: 920_504_633
+        })
+    );
+    Ok(())
+}

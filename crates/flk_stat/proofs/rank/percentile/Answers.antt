@@ -13,7 +13,7 @@ returns c =
     let rank : ℕ = rank_of c.args.k (length rising) in
     let z : ℤ = c.ranked.result in
     let fits : FitsSigned w128 z = search rules in
-    let is : z ≡ ranked_at rising c.args.k = search rules in
+    let is : z ≡ ranked_at rising (length rising) c.args.k = search rules in
     let within = rank_in c.args.k (length rising) c.requires.low c.requires.high c.requires.some in
     let h = rank_at rising rank (pos 0) c.requires.rises within.0 within.1 in
     rw (to_z-of_z w128 z fits) (subst (λ (x : ℤ). HasRank int_lt rank rising x) (sym is) h)
