@@ -1,0 +1,10 @@
+pub mod HoldLemmas
+pub mod SameLemmas
+pub mod LengthLemmas
+pub mod ExistLemmas
+pub mod QuantityLemmas
+pub mod FilterLemmas
+pub mod WidthLemmas
+pub mod RangeLemmas
+pub mod CoverLemmas
+pub mod SettledLemmas
