@@ -1,0 +1,95 @@
+-- What one more sample does to a phase.
+use Rattle.std.proofs.Common.{◌≡◌, ℕ, ◌+◌, Bool, List, [], ◌∷◌, ◌++◌, length, map, ℤ, pos, reverse, sym, subst, ap, ◌∙◌, arith, length-append, ⊎_elim}
+use Rattle.std.proofs.lemmas.Bool.{cases_lt}
+use Rattle.std.proofs.lemmas.List.{map-append, get_or_append_left}
+use Rattle.std.proofs.Math.Seq.{get_or-append_seam}
+use Rattle.flk_exact.specs.Fraction.{Fraction, whole}
+use Rattle.flk_exact.proofs.ListLemmas.{AllZip-push, reverse-push}
+use Rattle.flk_num.specs.declared.interval.Interval.{Interval}
+use Rattle.flk_scale.specs.declared.scale.Scale.{Scale}
+use Rattle.flk_scale.specs.Scale.{voltage_of, nominal_of, uncertainty_of}
+use Rattle.flk_scale.specs.Voltage.{is_below_zero, IsVoltageInterval, IsOverRange}
+use Rattle.flk_scale.specs.Range.{voltage_at, IsWithinRange}
+use Rattle.flk_section.specs.declared.whole.Whole.{Whole}
+use Rattle.flk_section.specs.Whole.{numbers_of}
+use Rattle.flk_result.specs.Conditions.{Conditions, conditions_of as conditions_by}
+use Rattle.flk_result.specs.declared.result.Setup.{Setup}
+use Rattle.flk_result.specs.Promise.{IsFilterOf}
+use Rattle.flk_phase.specs.declared.meter.Meter.{Meter}
+use Rattle.flk_phase.specs.declared.phase.Phase.{Phase}
+use Rattle.flk_phase.specs.Halves.{StandsFor as HalvesStandFor}
+use Rattle.flk_phase.specs.Meter.{StandsFor as MeterStandsFor}
+use Rattle.flk_phase.specs.Severities.{StandsFor as SeveritiesStandFor}
+use Rattle.flk_phase.specs.Phase.{whole_of, conditions_of, told_by, Stands}
+
+-- ---- no voltage over range
+
+-- one voltage more
+within_more : (nominal : ℕ) (recorded : List Fraction) (v : Fraction) → IsWithinRange nominal recorded → ¬ IsOverRange nominal v → IsWithinRange nominal (recorded ++ v ∷ [])
+within_more nominal recorded v within fine = λ k less over.
+    ⊎_elim
+    (λ before. within k before (subst (IsOverRange nominal) (get_or_append_left recorded (v ∷ []) (whole (pos 0)) k before) over))
+    (λ last.
+    let here : k ≡ length recorded = omega (arith, less, last, length-append recorded (v ∷ [])) in
+    let same : voltage_at (recorded ++ v ∷ []) k ≡ v = ap (voltage_at (recorded ++ v ∷ [])) here ∙ get_or-append_seam recorded v [] (whole (pos 0)) in
+    fine (subst (IsOverRange nominal) same over))
+    (cases_lt k (length recorded))
+
+-- ---- one sample more
+
+pub moved_filter : (c d : Conditions) (w v : Whole) → d ≡ c → v ≡ w → IsFilterOf c w → IsFilterOf d v
+moved_filter c d w v same alike h = subst (λ (b : Whole). IsFilterOf d b) (sym alike) (subst (λ (b : Conditions). IsFilterOf b w) (sym same) h)
+
+same_conditions : (s t : Setup) (w v : Whole) (a b : Scale) → t ≡ s → v ≡ w → b ≡ a
+    → conditions_by t (numbers_of v) (nominal_of b) (uncertainty_of b) ≡ conditions_by s (numbers_of w) (nominal_of a) (uncertainty_of a)
+same_conditions s t w v a b setup bound scale =
+    ap (λ (x : Setup). conditions_by x (numbers_of v) (nominal_of b) (uncertainty_of b)) setup
+    ∙ (ap (λ (x : Whole). conditions_by s (numbers_of x) (nominal_of b) (uncertainty_of b)) bound ∙ ap (λ (x : Scale). conditions_by s (numbers_of w) (nominal_of x) (uncertainty_of x)) scale)
+
+pub conditions_stay : (old new : Phase) → new.scale ≡ old.scale → new.setup ≡ old.setup → whole_of new ≡ whole_of old → conditions_of new ≡ conditions_of old
+conditions_stay old new scale setup bound = same_conditions old.setup new.setup (whole_of old) (whole_of new) old.scale new.scale setup bound scale
+
+told_push : (scale : Scale) (samples : List ℤ) (x : ℤ) → told_by scale (samples ++ x ∷ []) ≡ told_by scale samples ++ voltage_of scale x ∷ []
+told_push scale samples x = map-append (voltage_of scale) samples (x ∷ [])
+
+signs_push : (scale : Scale) (samples : List ℤ) (x : ℤ) → map is_below_zero (told_by scale (samples ++ x ∷ [])) ≡ map is_below_zero (told_by scale samples) ++ is_below_zero (voltage_of scale x) ∷ []
+signs_push scale samples x = ap (map is_below_zero) (told_push scale samples x) ∙ map-append is_below_zero (told_by scale samples) (voltage_of scale x ∷ [])
+
+meter_more : (old new : Meter) (voltages levels : List Interval) (v level : Interval)
+    → ((vs ls : List Interval) → MeterStandsFor old vs ls → MeterStandsFor new (v ∷ vs) (level ∷ ls))
+    → MeterStandsFor old (reverse voltages) (reverse levels) → MeterStandsFor new (reverse (voltages ++ v ∷ [])) (reverse (levels ++ level ∷ []))
+meter_more old new voltages levels v level step h =
+    let P : List Interval → List Interval → Type 0 = MeterStandsFor new in
+    subst (λ (vs : List Interval). P vs (reverse (levels ++ level ∷ []))) (sym (reverse-push voltages v)) (subst (P (v ∷ reverse voltages)) (sym (reverse-push levels level)) (step (reverse voltages) (reverse levels) h))
+
+-- The parts of the new phase are those of the old one after the sample.
+pub record HasSample (old new : Phase) (x : ℤ) (v level : Interval) : Type 0 where
+  pub scale : new.scale ≡ old.scale
+  pub setup : new.setup ≡ old.setup
+  pub whole_is : whole_of new ≡ whole_of old
+  pub taken : new.taken ≡ old.taken + 1
+  pub fine : ¬ IsOverRange (nominal_of old.scale) (voltage_of old.scale x)
+  pub interval : IsVoltageInterval (nominal_of old.scale) (uncertainty_of old.scale) (voltage_of old.scale x) v
+  pub halves : (signs : List Bool) (vs : List Interval) → HalvesStandFor old.halves signs vs → HalvesStandFor new.halves (signs ++ is_below_zero (voltage_of old.scale x) ∷ []) (vs ++ v ∷ [])
+  pub meter : (vs ls : List Interval) → MeterStandsFor old.meter vs ls → MeterStandsFor new.meter (v ∷ vs) (level ∷ ls)
+  pub severities : (run_in interval count : ℕ) (ls : List Interval) → SeveritiesStandFor old.severities run_in interval count ls
+      → SeveritiesStandFor new.severities run_in interval count (ls ++ level ∷ [])
+
+pub stands_sample : (old new : Phase) (samples : List ℤ) (x : ℤ) (v level : Interval) → HasSample old new x v level → Stands old samples → Stands new (samples ++ x ∷ [])
+stands_sample old new samples x v level s h =
+    let told = told_push old.scale samples x in
+    let setup = old.setup in
+    let halves = s.halves (map is_below_zero (told_by old.scale samples)) h.voltages h.halves in
+    record {
+      filter = moved_filter (conditions_of old) (conditions_of new) (whole_of old) (whole_of new) (conditions_stay old new s.scale s.setup s.whole_is) s.whole_is h.filter;
+      within = rw (s.scale, told) (within_more (nominal_of old.scale) (told_by old.scale samples) (voltage_of old.scale x) h.within s.fine);
+      voltages = h.voltages ++ v ∷ [];
+      levels = h.levels ++ level ∷ [];
+      are_voltages = rw (s.scale, told)
+          (AllZip-push (IsVoltageInterval (nominal_of old.scale) (uncertainty_of old.scale)) (told_by old.scale samples) h.voltages (voltage_of old.scale x) v h.are_voltages s.interval);
+      halves = rw (s.scale, signs_push old.scale samples x) halves;
+      meter = meter_more old.meter new.meter h.voltages h.levels v level s.meter h.meter;
+      severities = rw s.setup (s.severities setup.run_in setup.interval setup.count h.levels h.severities);
+      level_each = omega (arith, h.level_each, length-append h.levels (level ∷ []), length-append samples (x ∷ []));
+      taken = omega (arith, s.taken, h.taken, length-append samples (x ∷ []));
+    }

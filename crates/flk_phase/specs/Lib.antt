@@ -1,0 +1,7 @@
+-- cited by the contracts of public functions
+pub mod Phase
+pub mod Taking
+-- what the parts of a phase stand for
+pub mod Halves
+pub mod Meter
+pub mod Severities
