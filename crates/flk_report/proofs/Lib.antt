@@ -1,0 +1,5 @@
+mod OneLemmas
+pub mod VerdictLemmas
+pub mod HeldLemmas
+mod TextLemmas
+mod OpenLemmas
