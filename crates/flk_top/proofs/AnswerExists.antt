@@ -1,14 +1,9 @@
 -- Some answer is due: words and files have an outcome.
-use Rattle.std.proofs.Common.{◌⊎◌, ℕ, suc, ◌+◌, ◌-◌, ◌*◌, ◌^◌, ◌<◌, ◌≤◌, List, [], ◌∷◌, ◌++◌, length, map, get_or, codes, ℤ, refl, sym, ◌∙◌, arith, inl, inr}
+use Rattle.std.proofs.Common.{◌⊎◌, ℕ, ◌+◌, ◌<◌, ◌≤◌, List, [], ◌∷◌, length, map, refl, arith, inl, inr}
 use Rattle.std.proofs.lemmas.Bool.{cases_lt}
 use Rattle.flk_num.specs.Rate.{half_at}
 use Rattle.flk_num.specs.declared.lamp.Lamp.{Lamp}
 use Rattle.flk_num.specs.declared.rate.Rate.{Rate}
-use Rattle.flk_cert.specs.declared.coefs.Coefs.{Coefs}
-use Rattle.flk_cert.specs.Gain.{input_of, rounding_of}
-use Rattle.flk_cert.proofs.MadeCases.{made_exists}
-use Rattle.flk_cert.proofs.FitCases.{fit_cases, gain_exists}
-use Rattle.flk_design.proofs.DesignCases.{design_exists}
 use Rattle.flk_cfg.specs.Kinds.{kind_number}
 use Rattle.flk_cfg.specs.declared.config.Analog.{Analog}
 use Rattle.flk_cfg.specs.declared.config.Config.{Config}
@@ -17,64 +12,40 @@ use Rattle.flk_dat.specs.Kinds.{data_kind_number as record_kind}
 use Rattle.flk_dat.specs.Records.{record_at, layout_of}
 use Rattle.flk_dat.proofs.FileCases.{accepted_or_first_fault}
 use Rattle.flk_top.specs.Answer.{IsDueFor, IsDue, usage, asked}
-use Rattle.flk_top.specs.Certified.{IsRefused, IsFirstRefused}
+use Rattle.flk_top.specs.Certified.{lamp_fault_number}
 use Rattle.flk_top.specs.CheckDue.{IsDueForSummary, file_fault, checked, IsDueForCheck, no_configuration as unread, read}
-use Rattle.flk_top.specs.Command.{Asks, inputs_of, configuration_name, data_name}
+use Rattle.flk_top.specs.Command.{Asks, inputs_of, configuration_name, data_name, job_name, report_configuration_name, report_data_name}
 use Rattle.flk_top.specs.Configuration.{configuration_limit, IsConfiguration, IsConfigurationFault, too_long, first_fault}
 use Rattle.flk_top.specs.Faults.{usage_line, match_line, data_line, range_line, configuration_line, lamp_line}
 use Rattle.flk_top.specs.LevelsDue.{IsDueForRecording, data_fault, over_range, measured, IsDueForLevels, no_configuration, no_match, matched}
 use Rattle.flk_top.specs.Matching.{Matches, IsMatchFault, recorded_voltages}
 use Rattle.flk_top.specs.Outcome.{Outcome, completed, refusal}
-use Rattle.flk_top.specs.Tables.{section_line, gain_line, AreSectionLines, AreLines, IsDueForTables, certified, refused}
+use Rattle.flk_top.specs.Tables.{tables_text, IsDueForTables, certified, refused}
 use Rattle.flk_top.specs.Text.{levels_text, check_text}
 use Rattle.flk_top.specs.Told.{Files}
 use Rattle.flk_top.specs.declared.command.Command.{Command}
-use Rattle.flk_top.specs.declared.command.Command.TheVariants.{Levels, Check, Tables}
+use Rattle.flk_top.specs.declared.command.Command.TheVariants.{Levels, Check, Tables, Report}
 use Rattle.flk_top.specs.declared.command.LevelsCommand.{LevelsCommand}
 use Rattle.flk_scale.specs.declared.fault.MatchFault.{MatchFault}
 use Rattle.flk_scale.specs.declared.fault.MatchFault.TheVariants as faults
-use Rattle.flk_top.proofs.TablesLemmas.{not_refused}
+use Rattle.flk_top.proofs.LampLemmas.{certified_cases}
 use Rattle.flk_top.proofs.MeasureLemmas.{half_some}
 use Rattle.flk_scale.proofs.MatchingLemmas.{channel_cases, lamp_cases}
 use Rattle.flk_scale.proofs.RangeLemmas.{over_cases}
 use Rattle.flk_top.proofs.LevelsExist.{levels_exist}
+use Rattle.flk_top.proofs.ReportExists.{report_due}
 use Rattle.flk_top.proofs.WordCases.{asked_for}
 
 -- ---- tables
-
-section_cases : (i : ℕ) (k : Coefs) → ((text : List ℕ) × AreSectionLines i k text) ⊎ IsRefused k
-section_cases i k =
-    let made = made_exists k in
-    elim (fit_cases k made.0) [
-      | inr fails ↦ inr (record { rows = made.0; made = made.1; fails = fails })
-      | inl fits ↦
-          let gain = gain_exists k made.0 fits in
-          inl (
-            section_line i k ++ gain_line i (input_of gain.0) (rounding_of gain.0) (length made.0),
-            record { rows = made.0; gain = gain.0; certified = record { made = made.1; fits = fits; shows = gain.1 }; text_is = refl },
-          )
-    ]
-
-lines_cases : (i : ℕ) (sections : List Coefs) → ((text : List ℕ) × AreLines i sections text) ⊎ ((j : ℕ) × IsFirstRefused sections j)
-lines_cases i [] = inl ([], refl)
-lines_cases i (k ∷ ks) =
-    elim (section_cases i k) [
-      | inr fails ↦ inr (0, fails)
-      | inl lines ↦ elim (lines_cases (i + 1) ks) [
-        | inl rest ↦ inl (lines.0 ++ rest.0, (lines.0, rest.0, lines.1, rest.1, refl))
-        | inr later ↦ inr (suc later.0, (not_refused i k lines.0 lines.1, later.1))
-      ]
-    ]
 
 abbrev HasOutcome : (Outcome → Type 0) → Type 0
 HasOutcome due = (o : Outcome) × due o
 
 tables_due : (lamp : Lamp) (rate : Rate) → HasOutcome (IsDueForTables lamp rate)
 tables_due lamp rate =
-    let design = design_exists lamp rate in
-    elim (lines_cases 1 design.0) [
-      | inl lines ↦ (completed lines.0, certified design.0 lines.0 design.1 lines.1 refl)
-      | inr first ↦ (refusal (lamp_line (first.0 + 1)), refused design.0 first.0 design.1 first.1 refl)
+    elim (certified_cases lamp rate) [
+      | inl is ↦ (completed (tables_text is.0), certified is.0 is.1 refl)
+      | inr out ↦ (refusal (lamp_line (lamp_fault_number out.0)), refused out.0 out.1 refl)
     ]
 
 -- ---- the configuration
@@ -159,6 +130,9 @@ command_due words files (Levels command) asks =
     levels_due command (files (configuration_name words)) (files (data_name words)) asks.channel_word.at_least (omega (arith, asks.nominal_word.at_least))
 command_due words files Check asks = check_due (files (configuration_name words)) (files (data_name words))
 command_due words files (Tables lamp rate) asks = tables_due lamp rate
+command_due words files (Report command) asks =
+    let conf = files (report_configuration_name words) in
+    report_due (files (job_name words)) conf (files (report_data_name words)) (configuration_cases conf)
 
 pub some_answer : (words : List (List ℕ)) (files : Files) → (o : Outcome) × IsDue words files o
 some_answer words files =

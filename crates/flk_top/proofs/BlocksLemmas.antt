@@ -1,7 +1,7 @@
 -- What each step does to the reading of a data file.
-use Rattle.std.proofs.Common.{◌≡◌, ℕ, ◌+◌, ◌-◌, ◌*◌, ◌^◌, ◌<◌, ◌≤◌, min, List, [], ◌++◌, length, take, drop, Option, Some, None, refl, sym, ap, ◌∙◌, subst, arith, append_assoc, append-nil, length-append, length-take, length-drop}
-use Rattle.std.specs.Prelude.{slice_range, unwrap_or}
-use Rattle.std.specs.Io.KnownBytes.{Consumes, IsAtEnd}
+use Rattle.std.proofs.Common.{◌≡◌, ℕ, ◌+◌, ◌-◌, ◌^◌, ◌<◌, ◌≤◌, List, [], ◌++◌, length, take, drop, Option, Some, None, refl, sym, ap, ◌∙◌, subst, arith, append_assoc, append-nil, length-append, length-take, length-drop}
+use Rattle.std.specs.Prelude.{slice_range}
+use Rattle.std.specs.Io.KnownBytes.{Consumes}
 use Rattle.std.proofs.KnownBytes.{Consumes-nil, Consumes-trans}
 use Rattle.std.proofs.lemmas.List.{take-append-drop, drop-take, drop-drop}
 use Rattle.std.proofs.lemmas.List.FromFn.{length-map-range_with_len}
@@ -11,11 +11,10 @@ use Rattle.flk_dat.specs.Records.{DataRecord, Rows, Layout, layout_of, is_among,
 use Rattle.flk_dat.specs.DataFile.{AreFirst, IsAccepted}
 use Rattle.flk_dat.specs.Streams.{HasFault, EndsInFault, added, Grows}
 use Rattle.flk_dat.specs.States.{layout, Stands, FitsBlock as Fits}
-use Rattle.flk_dat.specs.declared.reader.Reader.{Reader}
 use Rattle.flk_dat.specs.declared.kind.DatFault.{DatFault}
 use Rattle.flk_dat.proofs.TakenBytes.{taken_length}
 use Rattle.flk_top.specs.Told.{MayHold}
-use Rattle.flk_top.specs.Blocks.{HasRead, Gives, Begins, EndsAs, block_of, records_of, fed_count, unfed}
+use Rattle.flk_top.specs.Blocks.{HasRead, Gives, Begins, EndsAs, block_of, records_of, unfed}
 use Rattle.flk_top.specs.declared.blocks.Blocks.{Blocks}
 use Rattle.flk_top.specs.declared.blocks.Progress.{Progress}
 use Rattle.flk_top.specs.declared.blocks.Progress.TheVariants.{Full, Ended, Fault}

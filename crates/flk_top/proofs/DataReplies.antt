@@ -80,7 +80,7 @@ levels_recorded m c command a matched rs found h made are =
     (subst (λ (n : ℕ). AreLevels (half_of m.matched) (nominal_of m.matched.scale) n (recorded_voltages a command.channel rs) found) (uncertainty_is m c command a matched h made)
     (subst (λ (vs : List Fraction). AreLevels (half_of m.matched) (nominal_of m.matched.scale) (uncertainty_of m.matched.scale) vs found) (told_recorded m c command a matched h made rs) are)))
 
-data_line_is : (p q field a b : ℕ) → p ≡ q → a ≡ b → data_line p field a ≡ data_line q field b
+pub data_line_is : (p q field a b : ℕ) → p ≡ q → a ≡ b → data_line p field a ≡ data_line q field b
 data_line_is p q field a b h k = rw (h, k) refl
 
 pub made_same : (old new : Measure) (matched : Matched) (channel : ℕ) → IsSameMeasurement old new → IsMadeFor old matched channel → IsMadeFor new matched channel

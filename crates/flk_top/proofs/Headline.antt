@@ -1,5 +1,5 @@
 -- Files that are accepted have one answer, which tells their levels.
-use Rattle.std.proofs.Common.{◌≡◌, ℕ, ◌<◌, List, [], ◌∷◌, length, map, pos, refl, sym, ap, ◌∙◌, subst, arith, ⊎_elim, inl, inr}
+use Rattle.std.proofs.Common.{◌≡◌, ℕ, ◌+◌, ◌<◌, List, [], ◌∷◌, length, map, pos, refl, sym, ap, ◌∙◌, subst, arith, ⊎_elim, inl, inr}
 use Rattle.std.proofs.lemmas.Bool.{cases_lt}
 use Rattle.std.proofs.lemmas.List.{length-map, get_or-map}
 use Rattle.flk_exact.specs.Fraction.{Fraction, whole}
@@ -8,18 +8,21 @@ use Rattle.flk_num.specs.declared.lamp.Lamp.{Lamp}
 use Rattle.flk_cfg.specs.declared.config.Analog.{Analog}
 use Rattle.flk_cfg.specs.declared.config.Config.{Config}
 use Rattle.flk_cfg.proofs.ConfigLaws.{one_config, config_or_fault}
+use Rattle.flk_cfg.proofs.LineLaws.{one_first_fault}
 use Rattle.flk_scale.specs.Voltage.{recorded_voltage, IsOverRange}
 use Rattle.flk_dat.specs.Records.{DataRecord, Layout, no_record, record_at, layout_of, Follows, last_number, ArePresent}
 use Rattle.flk_dat.specs.DataFile.{AreFirst, after_records, IsAccepted, IsFaultAfter}
+use Rattle.flk_dat.specs.Kinds.{data_kind_number as record_kind}
 use Rattle.flk_dat.specs.declared.kind.Kind.{Kind}
 use Rattle.flk_dat.proofs.Sequences.{follows_at}
 use Rattle.flk_dat.proofs.RecordLaws.{record_or_fault}
 use Rattle.flk_dat.proofs.FileLaws.{each_once, file_once, accepted_or_fault_after}
 use Rattle.flk_scale.proofs.MatchingLemmas.{one_channel, measured_has_no_fault, one_lamp}
-use Rattle.flk_top.specs.Command.{Asks, inputs_of, configuration_name, data_name}
+use Rattle.flk_top.specs.Command.{inputs_of, configuration_name, data_name}
 use Rattle.flk_top.specs.Configuration.{IsConfiguration, IsConfigurationFault, too_long, first_fault}
 use Rattle.flk_top.specs.Matching.{Matches, IsMatchFault, sample_of, recorded_voltages}
 use Rattle.flk_scale.specs.Range.{voltage_at, IsFirstOver, IsWithinRange}
+use Rattle.flk_top.specs.Faults.{data_line}
 use Rattle.flk_top.specs.Levels.{AreLevels}
 use Rattle.flk_top.specs.LevelsDue.{IsDueForRecording, data_fault, over_range, measured, IsDueForLevels, no_configuration, no_match, matched}
 use Rattle.flk_top.specs.Outcome.{Outcome, completed}
@@ -42,6 +45,14 @@ configuration_or_fault bytes text c is (first_fault line field kind small fault 
 pub one_configuration : (bytes : List ℕ) (c d : Config) → IsConfiguration bytes c → IsConfiguration bytes d → c ≡ d
 one_configuration bytes c d h k = one_config bytes c d h.writes k.writes
 
+pub one_configuration_fault : (bytes xs ys : List ℕ) → IsConfigurationFault bytes xs → IsConfigurationFault bytes ys → xs ≡ ys
+one_configuration_fault bytes xs ys (too_long long text) (too_long more line) = text ∙ sym line
+one_configuration_fault bytes xs ys (too_long long text) (first_fault l f k small fault line) = absurd (omega (arith, long, small))
+one_configuration_fault bytes xs ys (first_fault l f k small fault text) (too_long more line) = absurd (omega (arith, more, small))
+one_configuration_fault bytes xs ys (first_fault l f k small fault text) (first_fault m g h few other line) =
+    let same = one_first_fault bytes l m f g k h fault other in
+    text ∙ rw (same.0, same.1, same.2) refl ∙ sym line
+
 -- a channel that can be measured fails no test
 pub match_or_fault : (c : Config) (channel : ℕ) (a : Analog) (lamp : Lamp) (fault : MatchFault) → Matches c channel a lamp → IsMatchFault c channel fault → ⊥
 match_or_fault c channel a lamp fault h (inl fails) = measured_has_no_fault c channel fault (a, h.there, h.scale) fails
@@ -49,15 +60,19 @@ match_or_fault c channel a lamp fault h (inr fails) = fails.1.1 lamp h.frequency
 
 -- ---- the data
 
+pub data_line_same : (rs ss : List DataRecord) (field place : ℕ) (kind again : Kind) → (rs ≡ ss) × (field ≡ place) × (kind ≡ again)
+    → data_line (length rs + 1) field (record_kind kind) ≡ data_line (length ss + 1) place (record_kind again)
+data_line_same rs ss field place kind again same = rw (same.0, same.1, same.2) refl
+
 -- the k-th recorded voltage is that of the k-th record
-voltage_of_record : (a : Analog) (channel : ℕ) (rs ss : List DataRecord) (k : ℕ) → k < length rs → k < length ss → record_at rs k ≡ record_at ss k
+pub voltage_of_record : (a : Analog) (channel : ℕ) (rs ss : List DataRecord) (k : ℕ) → k < length rs → k < length ss → record_at rs k ≡ record_at ss k
     → voltage_at (recorded_voltages a channel rs) k ≡ voltage_at (recorded_voltages a channel ss) k
 voltage_of_record a channel rs ss k p q same =
     let f : DataRecord → Fraction = λ r. recorded_voltage a (sample_of channel r) in
     get_or-map f rs k no_record (whole (pos 0)) p ∙ ap f same ∙ sym (get_or-map f ss k no_record (whole (pos 0)) q)
 
 -- where good records go on there is no fault
-record_there : (l : Layout) (bytes : List ℕ) (rs ss : List DataRecord) (field : ℕ) (kind : Kind) → IsFaultAfter l bytes rs field kind → AreFirst l bytes ss → ArePresent l ss → length rs < length ss → ⊥
+pub record_there : (l : Layout) (bytes : List ℕ) (rs ss : List DataRecord) (field : ℕ) (kind : Kind) → IsFaultAfter l bytes rs field kind → AreFirst l bytes ss → ArePresent l ss → length rs < length ss → ⊥
 record_there l bytes rs ss field kind f b present less =
     elim f.here [
       | inl due ↦

@@ -1,5 +1,5 @@
 -- What a reply tells of the reads that failed.
-use Rattle.std.proofs.Common.{◌≡◌, ◌≢◌, List, ℕ, Result, Ok, Err, IfOk, string_bytes}
+use Rattle.std.proofs.Common.{◌≡◌, ◌≢◌, List, ℕ, Result, Ok, Err, IfOk, ◌∙◌, string_bytes}
 use Rattle.flk_io.specs.Causes.{Rose}
 use Rattle.flk_io.specs.Told.{ShelfTold}
 use Rattle.flk_top.specs.Faults.{read_line}
@@ -31,3 +31,12 @@ done_honest text old new (Ok x) h same = record {
   quiet = λ fine. same;
 }
 done_honest text old new (Err e) h same = tt
+
+-- what is honest of the second reading is honest of both
+pub honest_on : {E : Type 0} (old mid new : ShelfTold) (r : Result Reply E) → mid.read_faults ≡ old.read_faults → IfOk r (IsHonest mid new) → IfOk r (IsHonest old new)
+honest_on old mid new (Ok x) same h = record {
+  text = h.text;
+  rose = λ failed. rw same at (h.rose failed);
+  quiet = λ other. h.quiet other ∙ same;
+}
+honest_on old mid new (Err e) same h = tt

@@ -1,31 +1,32 @@
 -- From the intervals of recorded voltages to the extremes of every run.
-use Rattle.std.proofs.Common.{ℕ, ◌-◌, ◌*◌, ◌^◌, ◌<◌, ◌≤◌, Bool, List, [], ◌∷◌, length, map, drop, get_or, ℤ, pos, ◌+ℤ◌, ◌-ℤ◌, ◌*ℤ◌, ◌≤ℤ◌, Option, Some, None, arith, length-take}
-use Rattle.std.specs.Prelude.{negsuc, slice_range}
+use Rattle.std.proofs.Common.{ℕ, ◌*◌, ◌^◌, ◌<◌, Bool, List, [], ◌∷◌, length, map, get_or, ℤ, pos, ◌+ℤ◌, ◌-ℤ◌, ◌*ℤ◌, ◌≤ℤ◌, Option, Some, None, arith}
+use Rattle.std.specs.Prelude.{negsuc}
 use Rattle.std.specs.List.{All, AllZip, Contains}
 use Rattle.std.proofs.lemmas.Int.{ints}
 use Rattle.std.proofs.lemmas.List.{get_or-map, length-map}
-use Rattle.std.proofs.lemmas.List.Elements.{All-nil, All-cons, All-take, All-drop}
+use Rattle.std.proofs.lemmas.List.Elements.{All-nil, All-cons}
 use Rattle.flk_exact.specs.Fraction.{Fraction, ◌≤ℚ◌, whole}
-use Rattle.flk_exact.specs.Rounding.{IsBetween}
 use Rattle.flk_exact.specs.Run.{IsAdmitted, IsAdmittedRun, CoversDoubt}
-use Rattle.flk_exact.specs.Cut.{AreCutsFrom, AreCuts, parts_from, half_periods}
-use Rattle.flk_exact.specs.HalfPeriod.{IsHalfPeriodValue, AreHalfPeriodValues, half_period_width}
+use Rattle.flk_exact.specs.Cut.{AreCuts, half_periods}
+use Rattle.flk_exact.specs.HalfPeriod.{half_period_width}
 use Rattle.flk_exact.specs.Extreme.{IsLeast, IsGreatest}
 use Rattle.flk_exact.proofs.WholeLemmas.{atom, nat, plus_is, times_is, from_at_most, scale_≤}
 use Rattle.flk_exact.proofs.FractionLemmas.{≤ℚ-trans}
 use Rattle.flk_exact.proofs.ListLemmas.{AllZip-length, AllZip-joined}
-use Rattle.flk_exact.proofs.CutLemmas.{AllZip-half_periods, length-half_periods, few_samples}
+use Rattle.flk_exact.proofs.CutLemmas.{length-half_periods}
 use Rattle.flk_exact.proofs.ExtremeLemmas.{least_≤, greatest_≤}
 use Rattle.flk_num.specs.declared.interval.Interval.{Interval}
-use Rattle.flk_num.specs.Interval.{Holds, HoldEach, IsNarrow}
+use Rattle.flk_num.specs.Interval.{lows, highs, Holds, HoldEach, IsNarrow}
+use Rattle.flk_num.specs.Values.{HoldValues}
 use Rattle.flk_num.specs.Square.{least_squares}
 use Rattle.flk_scale.specs.Voltage.{IsVoltageInterval, is_below_zero}
 use Rattle.flk_half.specs.Cutter.{IsHalfPeriodInterval}
+use Rattle.flk_half.specs.Intervals.{AreHalfPeriodIntervals, IsNarrowHalfPeriod}
 use Rattle.flk_top.specs.Levels.{HoldsEveryRun, KeepsWidth, IsExtremeInterval, AreExtremeIntervals, AreExtremeIntervalsIfAny, AreExtremes, AreExtremesIfAny}
 use Rattle.flk_top.specs.declared.measure.Extremes.{Extremes}
 use Rattle.flk_scale.proofs.VoltageLemmas.{voltage_holds, voltage_narrow}
-use Rattle.flk_half.proofs.EnclosureLemmas.{IsValueAt-natural, half_period_holds}
-use Rattle.flk_half.proofs.WidthLemmas.{half_period_narrow}
+use Rattle.flk_half.proofs.EnclosureLemmas.{IsValueAt-natural}
+use Rattle.flk_half.proofs.IntervalsLemmas.{intervals_hold, intervals_narrow}
 
 -- ---- every run
 
@@ -35,47 +36,34 @@ run_held nominal uncertainty recorded voltages run some are admitted =
     AllZip-joined (IsVoltageInterval nominal uncertainty) (IsAdmitted (1000 * nominal) uncertainty) Holds
     (λ r v u is near. voltage_holds nominal uncertainty r v u some is near) recorded voltages run are admitted
 
--- w lies in h
-abbrev pub LiesIn : Interval → ℤ → Type 0
-LiesIn h w = IsBetween h.lo h.hi w
-
-values_held : (half : ℕ) (cuts : List ℕ) (voltages : List Interval) (run : List Fraction) (intervals : List Interval) (values : List ℤ) → HoldEach voltages run
-    → AllZip (IsHalfPeriodInterval half) (half_periods cuts voltages) intervals → AreHalfPeriodValues half cuts run values → AllZip LiesIn intervals values
-values_held half cuts voltages run intervals values held are those =
-    let parts : AllZip HoldEach (half_periods cuts voltages) (half_periods cuts run) = AllZip-half_periods Holds cuts voltages run held in
-    AllZip-joined (λ us h. (w : ℤ) → IsHalfPeriodValue half us w → LiesIn h w) (IsHalfPeriodValue half) LiesIn (λ us h w lies value. lies w value) (half_periods cuts run) intervals values
-    (AllZip-joined HoldEach (IsHalfPeriodInterval half) (λ us h. (w : ℤ) → IsHalfPeriodValue half us w → LiesIn h w)
-    (λ vs us h each is w value. half_period_holds half vs us h w each is value) (half_periods cuts voltages) (half_periods cuts run) intervals parts are)
-    those
-
-lows_≤ : (intervals : List Interval) (values : List ℤ) → AllZip LiesIn intervals values → AllZip ◌≤ℤ◌ (map (λ h. h.lo) intervals) values
+lows_≤ : (intervals : List Interval) (values : List ℤ) → HoldValues intervals values → AllZip ◌≤ℤ◌ (lows intervals) values
 lows_≤ [] [] h = tt
 lows_≤ [] (w ∷ ws) h = absurd h
 lows_≤ (v ∷ vs) [] h = absurd h
 lows_≤ (v ∷ vs) (w ∷ ws) h = (h.0.above, lows_≤ vs ws h.1)
 
-highs_≤ : (intervals : List Interval) (values : List ℤ) → AllZip LiesIn intervals values → AllZip ◌≤ℤ◌ values (map (λ h. h.hi) intervals)
+highs_≤ : (intervals : List Interval) (values : List ℤ) → HoldValues intervals values → AllZip ◌≤ℤ◌ values (highs intervals)
 highs_≤ [] [] h = tt
 highs_≤ [] (w ∷ ws) h = absurd h
 highs_≤ (v ∷ vs) [] h = absurd h
 highs_≤ (v ∷ vs) (w ∷ ws) h = (h.0.below, highs_≤ vs ws h.1)
 
 pub least_holds : (half nominal uncertainty : ℕ) (recorded : List Fraction) (voltages : List Interval) (cuts : List ℕ) (intervals : List Interval) (v : Interval) → 0 < nominal → AllZip (IsVoltageInterval nominal uncertainty) recorded voltages
-    → AllZip (IsHalfPeriodInterval half) (half_periods cuts voltages) intervals → IsExtremeInterval IsLeast intervals v → HoldsEveryRun IsLeast half nominal uncertainty recorded cuts v
+    → AreHalfPeriodIntervals half cuts voltages intervals → IsExtremeInterval IsLeast intervals v → HoldsEveryRun IsLeast half nominal uncertainty recorded cuts v
 least_holds half nominal uncertainty recorded voltages cuts intervals v some are_voltages are_intervals is run values m admitted those least =
-    let held = values_held half cuts voltages run intervals values (run_held nominal uncertainty recorded voltages run some are_voltages admitted) are_intervals those in
+    let held = intervals_hold half cuts voltages run intervals values (run_held nominal uncertainty recorded voltages run some are_voltages admitted) are_intervals those in
     record {
-      above = least_≤ (map (λ h. h.lo) intervals) values v.lo m (lows_≤ intervals values held) is.low least;
-      below = least_≤ values (map (λ h. h.hi) intervals) m v.hi (highs_≤ intervals values held) least is.high;
+      above = least_≤ (lows intervals) values v.lo m (lows_≤ intervals values held) is.low least;
+      below = least_≤ values (highs intervals) m v.hi (highs_≤ intervals values held) least is.high;
     }
 
 pub greatest_holds : (half nominal uncertainty : ℕ) (recorded : List Fraction) (voltages : List Interval) (cuts : List ℕ) (intervals : List Interval) (v : Interval) → 0 < nominal → AllZip (IsVoltageInterval nominal uncertainty) recorded voltages
-    → AllZip (IsHalfPeriodInterval half) (half_periods cuts voltages) intervals → IsExtremeInterval IsGreatest intervals v → HoldsEveryRun IsGreatest half nominal uncertainty recorded cuts v
+    → AreHalfPeriodIntervals half cuts voltages intervals → IsExtremeInterval IsGreatest intervals v → HoldsEveryRun IsGreatest half nominal uncertainty recorded cuts v
 greatest_holds half nominal uncertainty recorded voltages cuts intervals v some are_voltages are_intervals is run values m admitted those greatest =
-    let held = values_held half cuts voltages run intervals values (run_held nominal uncertainty recorded voltages run some are_voltages admitted) are_intervals those in
+    let held = intervals_hold half cuts voltages run intervals values (run_held nominal uncertainty recorded voltages run some are_voltages admitted) are_intervals those in
     record {
-      above = greatest_≤ (map (λ h. h.lo) intervals) values v.lo m (lows_≤ intervals values held) is.low greatest;
-      below = greatest_≤ values (map (λ h. h.hi) intervals) m v.hi (highs_≤ intervals values held) greatest is.high;
+      above = greatest_≤ (lows intervals) values v.lo m (lows_≤ intervals values held) is.low greatest;
+      below = greatest_≤ values (highs intervals) m v.hi (highs_≤ intervals values held) greatest is.high;
     }
 
 -- ---- widths
@@ -97,65 +85,50 @@ natural_by n e d (negsuc k) some h =
 pub delta_natural : (n e : ℕ) (delta : Fraction) → 0 < n → CoversDoubt n e delta → pos 0 ≤ℤ delta.num
 delta_natural n e delta some h = natural_by n e delta.den delta.num some h.covers.cross
 
--- the interval is as narrow as delta promises
-abbrev pub IsNarrowValue : Fraction → Interval → Type 0
-IsNarrowValue delta h = whole (h.hi -ℤ h.lo) ≤ℚ half_period_width delta
-
-narrow_values : (half : ℕ) (negative : List Bool) (s : ℕ) (delta : Fraction) (voltages : List Interval) (cuts : List ℕ) (intervals : List Interval) → 0 < half → pos 0 ≤ℤ delta.num → All (IsNarrow delta) voltages
-    → AreCutsFrom half negative s cuts → AllZip (IsHalfPeriodInterval half) (parts_from s cuts voltages) intervals → All (IsNarrowValue delta) intervals
-narrow_values half negative s delta voltages [] [] some natural narrow cuts are = All-nil (IsNarrowValue delta)
-narrow_values half negative s delta voltages [] (h ∷ hs) some natural narrow cuts are = absurd are
-narrow_values half negative s delta voltages (p ∷ ps) [] some natural narrow cuts are = absurd are
-narrow_values half negative s delta voltages (p ∷ ps) (h ∷ hs) some natural narrow cuts are =
-    let count : length (slice_range voltages s p) ≤ 2 * half = omega (arith, few_samples half negative s p some cuts.0, length-take (p - s) (drop s voltages)) in
-    let part = All-take (IsNarrow delta) (p - s) (drop s voltages) (All-drop (IsNarrow delta) s voltages narrow) in
-    All-cons (IsNarrowValue delta) h hs (half_period_narrow half (slice_range voltages s p) h delta some count natural part are.0)
-    (narrow_values half negative p delta voltages ps hs some natural narrow cuts.1 are.1)
-
 -- an interval within the width of a narrow one is narrow
 narrower : (a b : ℤ) (w : Fraction) → a ≤ℤ b → whole b ≤ℚ w → whole a ≤ℚ w
 narrower a b w less h = ≤ℚ-trans (whole a) (whole b) w record { cross = scale_≤ a b 1 less } h
 
-least_narrow : (delta : Fraction) (intervals : List Interval) (v : Interval) → All (IsNarrowValue delta) intervals → IsExtremeInterval IsLeast intervals v → IsNarrowValue delta v
+least_narrow : (delta : Fraction) (intervals : List Interval) (v : Interval) → All (IsNarrowHalfPeriod delta) intervals → IsExtremeInterval IsLeast intervals v → IsNarrowHalfPeriod delta v
 least_narrow delta intervals v narrow is =
     let k = is.low.among.0 in
     let less : k < length intervals = omega (arith, is.low.among.1, length-map intervals (λ h. h.lo)) in
-    let there : k < length (map (λ h. h.hi) intervals) = omega (arith, less, length-map intervals (λ h. h.hi)) in
+    let there : k < length (highs intervals) = omega (arith, less, length-map intervals (λ h. h.hi)) in
     let h = get_or intervals k v in
     let lo = get_or-map (λ h. h.lo) intervals k v v.lo less in
     let hi = get_or-map (λ h. h.hi) intervals k v v.hi less in
     narrower (v.hi -ℤ v.lo) (h.hi -ℤ h.lo) (half_period_width delta) (omega (arith, ints, lo, hi, is.low.among.2, is.high.at_most k v.hi there)) (narrow k v less)
 
-greatest_narrow : (delta : Fraction) (intervals : List Interval) (v : Interval) → All (IsNarrowValue delta) intervals → IsExtremeInterval IsGreatest intervals v → IsNarrowValue delta v
+greatest_narrow : (delta : Fraction) (intervals : List Interval) (v : Interval) → All (IsNarrowHalfPeriod delta) intervals → IsExtremeInterval IsGreatest intervals v → IsNarrowHalfPeriod delta v
 greatest_narrow delta intervals v narrow is =
     let k = is.high.among.0 in
     let less : k < length intervals = omega (arith, is.high.among.1, length-map intervals (λ h. h.hi)) in
-    let there : k < length (map (λ h. h.lo) intervals) = omega (arith, less, length-map intervals (λ h. h.lo)) in
+    let there : k < length (lows intervals) = omega (arith, less, length-map intervals (λ h. h.lo)) in
     let h = get_or intervals k v in
     let lo = get_or-map (λ h. h.lo) intervals k v v.lo less in
     let hi = get_or-map (λ h. h.hi) intervals k v v.hi less in
     narrower (v.hi -ℤ v.lo) (h.hi -ℤ h.lo) (half_period_width delta) (omega (arith, ints, lo, hi, is.high.among.2, is.low.at_least k v.lo there)) (narrow k v less)
 
 all_narrow : (half nominal uncertainty : ℕ) (negative : List Bool) (recorded : List Fraction) (voltages : List Interval) (cuts : List ℕ) (intervals : List Interval) (delta : Fraction) → 0 < half → 0 < nominal → AreCuts half negative cuts
-    → AllZip (IsVoltageInterval nominal uncertainty) recorded voltages → AllZip (IsHalfPeriodInterval half) (half_periods cuts voltages) intervals → CoversDoubt (1000 * nominal) uncertainty delta → All (IsNarrowValue delta) intervals
+    → AllZip (IsVoltageInterval nominal uncertainty) recorded voltages → AreHalfPeriodIntervals half cuts voltages intervals → CoversDoubt (1000 * nominal) uncertainty delta → All (IsNarrowHalfPeriod delta) intervals
 all_narrow half nominal uncertainty negative recorded voltages cuts intervals delta some high are_cuts are_voltages are_intervals covers =
     let thousand : 0 < 1000 * nominal = omega arith in
-    narrow_values half negative 0 delta voltages cuts intervals some (delta_natural (1000 * nominal) uncertainty delta thousand covers)
-    (voltages_narrow nominal uncertainty recorded voltages delta high are_voltages covers) are_cuts are_intervals
+    intervals_narrow half negative cuts voltages intervals delta some are_cuts (delta_natural (1000 * nominal) uncertainty delta thousand covers)
+    (voltages_narrow nominal uncertainty recorded voltages delta high are_voltages covers) are_intervals
 
 pub least_keeps_width : (half nominal uncertainty : ℕ) (negative : List Bool) (recorded : List Fraction) (voltages : List Interval) (cuts : List ℕ) (intervals : List Interval) (v : Interval) → 0 < half → 0 < nominal → AreCuts half negative cuts
-    → AllZip (IsVoltageInterval nominal uncertainty) recorded voltages → AllZip (IsHalfPeriodInterval half) (half_periods cuts voltages) intervals → IsExtremeInterval IsLeast intervals v → KeepsWidth nominal uncertainty v
+    → AllZip (IsVoltageInterval nominal uncertainty) recorded voltages → AreHalfPeriodIntervals half cuts voltages intervals → IsExtremeInterval IsLeast intervals v → KeepsWidth nominal uncertainty v
 least_keeps_width half nominal uncertainty negative recorded voltages cuts intervals v some high are_cuts are_voltages are_intervals is delta covers =
     least_narrow delta intervals v (all_narrow half nominal uncertainty negative recorded voltages cuts intervals delta some high are_cuts are_voltages are_intervals covers) is
 
 pub greatest_keeps_width : (half nominal uncertainty : ℕ) (negative : List Bool) (recorded : List Fraction) (voltages : List Interval) (cuts : List ℕ) (intervals : List Interval) (v : Interval) → 0 < half → 0 < nominal → AreCuts half negative cuts
-    → AllZip (IsVoltageInterval nominal uncertainty) recorded voltages → AllZip (IsHalfPeriodInterval half) (half_periods cuts voltages) intervals → IsExtremeInterval IsGreatest intervals v → KeepsWidth nominal uncertainty v
+    → AllZip (IsVoltageInterval nominal uncertainty) recorded voltages → AreHalfPeriodIntervals half cuts voltages intervals → IsExtremeInterval IsGreatest intervals v → KeepsWidth nominal uncertainty v
 greatest_keeps_width half nominal uncertainty negative recorded voltages cuts intervals v some high are_cuts are_voltages are_intervals is delta covers =
     greatest_narrow delta intervals v (all_narrow half nominal uncertainty negative recorded voltages cuts intervals delta some high are_cuts are_voltages are_intervals covers) is
 
 -- ---- no interval reaches below 0
 
-natural_lows : (half : ℕ) (parts : List (List Interval)) (intervals : List Interval) → AllZip (IsHalfPeriodInterval half) parts intervals → All (λ z. pos 0 ≤ℤ z) (map (λ h. h.lo) intervals)
+natural_lows : (half : ℕ) (parts : List (List Interval)) (intervals : List Interval) → AllZip (IsHalfPeriodInterval half) parts intervals → All (λ z. pos 0 ≤ℤ z) (lows intervals)
 natural_lows half [] [] are = All-nil (λ z. pos 0 ≤ℤ z)
 natural_lows half [] (h ∷ hs) are = absurd are
 natural_lows half (vs ∷ parts) [] are = absurd are
@@ -166,15 +139,15 @@ natural_among : (xs : List ℤ) (m : ℤ) → All (λ z. pos 0 ≤ℤ z) xs → 
 natural_among xs m h among = omega (arith, ints, h among.0 m among.1, among.2)
 
 pub least_natural : (half : ℕ) (parts : List (List Interval)) (intervals : List Interval) (v : Interval) → AllZip (IsHalfPeriodInterval half) parts intervals → IsExtremeInterval IsLeast intervals v → pos 0 ≤ℤ v.lo
-least_natural half parts intervals v are is = natural_among (map (λ h. h.lo) intervals) v.lo (natural_lows half parts intervals are) is.low.among
+least_natural half parts intervals v are is = natural_among (lows intervals) v.lo (natural_lows half parts intervals are) is.low.among
 
 pub greatest_natural : (half : ℕ) (parts : List (List Interval)) (intervals : List Interval) (v : Interval) → AllZip (IsHalfPeriodInterval half) parts intervals → IsExtremeInterval IsGreatest intervals v → pos 0 ≤ℤ v.lo
-greatest_natural half parts intervals v are is = natural_among (map (λ h. h.lo) intervals) v.lo (natural_lows half parts intervals are) is.low.among
+greatest_natural half parts intervals v are is = natural_among (lows intervals) v.lo (natural_lows half parts intervals are) is.low.among
 
 -- ---- the levels
 
 pub are_extremes : (half nominal uncertainty : ℕ) (recorded : List Fraction) (voltages : List Interval) (cuts : List ℕ) (intervals : List Interval) (e : Extremes) → 0 < half → 0 < nominal → AreCuts half (map is_below_zero recorded) cuts
-    → AllZip (IsVoltageInterval nominal uncertainty) recorded voltages → AllZip (IsHalfPeriodInterval half) (half_periods cuts voltages) intervals → AreExtremeIntervals intervals e → AreExtremes half nominal uncertainty recorded cuts e
+    → AllZip (IsVoltageInterval nominal uncertainty) recorded voltages → AreHalfPeriodIntervals half cuts voltages intervals → AreExtremeIntervals intervals e → AreExtremes half nominal uncertainty recorded cuts e
 are_extremes half nominal uncertainty recorded voltages cuts intervals e some high are_cuts are_voltages are_intervals are = record {
   least_holds = least_holds half nominal uncertainty recorded voltages cuts intervals e.least high are_voltages are_intervals are.least_is;
   greatest_holds = greatest_holds half nominal uncertainty recorded voltages cuts intervals e.greatest high are_voltages are_intervals are.greatest_is;
@@ -191,7 +164,7 @@ are_extremes half nominal uncertainty recorded voltages cuts intervals e some hi
 }
 
 pub are_extremes_if_any : (half nominal uncertainty : ℕ) (recorded : List Fraction) (voltages : List Interval) (cuts : List ℕ) (intervals : List Interval) (e : Option Extremes) → 0 < half → 0 < nominal → AreCuts half (map is_below_zero recorded) cuts
-    → AllZip (IsVoltageInterval nominal uncertainty) recorded voltages → AllZip (IsHalfPeriodInterval half) (half_periods cuts voltages) intervals → AreExtremeIntervalsIfAny intervals e → AreExtremesIfAny half nominal uncertainty recorded cuts e
+    → AllZip (IsVoltageInterval nominal uncertainty) recorded voltages → AreHalfPeriodIntervals half cuts voltages intervals → AreExtremeIntervalsIfAny intervals e → AreExtremesIfAny half nominal uncertainty recorded cuts e
 are_extremes_if_any half nominal uncertainty recorded voltages cuts intervals None some high are_cuts are_voltages are_intervals are =
     omega (arith, are, AllZip-length (IsHalfPeriodInterval half) (half_periods cuts voltages) intervals are_intervals, length-half_periods cuts voltages)
 are_extremes_if_any half nominal uncertainty recorded voltages cuts intervals (Some e) some high are_cuts are_voltages are_intervals are =

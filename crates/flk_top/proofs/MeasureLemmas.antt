@@ -1,14 +1,13 @@
 -- What one more sample does to a measurement.
-use Rattle.std.proofs.Common.{◌≡◌, ℕ, ◌+◌, ◌-◌, ◌<◌, Bool, List, [], ◌∷◌, ◌++◌, length, map, take, drop, ℤ, pos, Option, Some, None, IfSome, IfNone, sym, subst, ap, ◌∙◌, refl, arith, length-drop, length-append, append_assoc, ⊎_elim}
-use Rattle.std.specs.Prelude.{slice_range, slice_index_or}
-use Rattle.std.specs.List.{All}
+use Rattle.std.proofs.Common.{◌≡◌, ℕ, ◌+◌, ◌<◌, List, [], ◌∷◌, ◌++◌, length, map, take, drop, ℤ, pos, Option, Some, None, IfSome, IfNone, sym, subst, ap, ◌∙◌, refl, arith, length-append, append_assoc, ⊎_elim}
+use Rattle.std.specs.Prelude.{slice_index_or}
 use Rattle.std.proofs.lemmas.Bool.{cases_lt}
 use Rattle.std.proofs.lemmas.List.{map-append, take_all, take_more, take-append-drop, get_or_append_left}
 use Rattle.std.proofs.Math.Seq.{get_or-append_seam}
 use Rattle.flk_exact.specs.Fraction.{Fraction, whole}
-use Rattle.flk_exact.specs.Cut.{AreCuts, half_periods, last_cut}
-use Rattle.flk_exact.proofs.ListLemmas.{AllZip-push, slice_range-append}
-use Rattle.flk_exact.proofs.CutLemmas.{half_periods-append, half_periods-push, AreCuts-below}
+use Rattle.flk_exact.specs.Cut.{half_periods}
+use Rattle.flk_exact.proofs.ListLemmas.{AllZip-length, AllZip-push}
+use Rattle.flk_exact.proofs.CutLemmas.{length-half_periods}
 use Rattle.flk_num.specs.Rate.{half_at}
 use Rattle.flk_num.specs.declared.rate.Rate.{Rate}
 use Rattle.flk_num.specs.declared.rate.Rate.TheVariants.{R2400, R4800}
@@ -18,6 +17,7 @@ use Rattle.flk_num.specs.declared.interval.Interval.{Interval}
 use Rattle.flk_scale.specs.Voltage.{is_below_zero, IsVoltageInterval, IsOverRange}
 use Rattle.flk_scale.specs.Scale.{nominal_of, uncertainty_of, voltage_of}
 use Rattle.flk_half.specs.Cutter.{IsHalfPeriodInterval, Continues, EndsHalfPeriod}
+use Rattle.flk_half.proofs.IntervalsLemmas.{HasCut-continues, HasCut-ends}
 use Rattle.flk_dat.specs.Records.{DataRecord, record_at, no_record}
 use Rattle.flk_scale.specs.Range.{IsFirstOver, IsWithinRange, voltage_at}
 use Rattle.flk_top.specs.Levels.{AreExtremeIntervalsIfAny, Gains, AreLevels}
@@ -26,23 +26,6 @@ use Rattle.flk_top.specs.declared.measure.Levels.{Levels}
 use Rattle.flk_top.specs.declared.measure.Measure.{Measure}
 use Rattle.flk_top.specs.declared.matching.Matched.{Matched}
 use Rattle.flk_top.proofs.LevelsLemmas.{are_extremes_if_any}
-
--- the half-periods with one sample more, where none ends before it
-parts_more : (half : ℕ) (negative : List Bool) (voltages : List Interval) (cuts : List ℕ) (v : Interval) → AreCuts half negative cuts → length voltages ≡ length negative → half_periods cuts (voltages ++ v ∷ []) ≡ half_periods cuts voltages
-parts_more half negative voltages cuts v are same =
-    half_periods-append cuts voltages (v ∷ []) (subst (λ (n : ℕ). All (λ p. p < n) cuts) (sym same) (AreCuts-below half negative cuts are))
-
--- and where one ends
-parts_push : (half : ℕ) (negative : List Bool) (voltages : List Interval) (cuts : List ℕ) (v : Interval) → AreCuts half negative cuts → length voltages ≡ length negative
-    → half_periods (cuts ++ length negative ∷ []) (voltages ++ v ∷ []) ≡ half_periods cuts voltages ++ drop (last_cut cuts) voltages ∷ []
-parts_push half negative voltages cuts v are same =
-    let p = length negative in
-    let s = last_cut cuts in
-    let pushed = half_periods-push cuts p (voltages ++ v ∷ []) in
-    let before = parts_more half negative voltages cuts v are same in
-    let part = slice_range-append s p voltages (v ∷ []) (omega (arith, same)) in
-    let whole : slice_range voltages s p ≡ drop s voltages = take_all (p - s) (drop s voltages) (omega (arith, same, length-drop s voltages)) in
-    cc
 
 -- ---- no voltage over range
 
@@ -65,7 +48,7 @@ within_more nominal recorded v within fine = λ k less over.
 -- ---- one sample more
 
 -- a sample before which no half-period ends
-pub measured_continues : (old new : Measure) (recorded : List Fraction) (x : Fraction) (v : Interval) → HasMeasured old recorded → new.matched ≡ old.matched
+measured_continues : (old new : Measure) (recorded : List Fraction) (x : Fraction) (v : Interval) → HasMeasured old recorded → new.matched ≡ old.matched
     → new.taken ≡ old.taken + 1 → new.levels ≡ old.levels → ¬ IsOverRange (nominal_of old.matched.scale) x
     → IsVoltageInterval (nominal_of old.matched.scale) (uncertainty_of old.matched.scale) x v → Continues old.cutter new.cutter (is_below_zero x) v → HasMeasured new (recorded ++ x ∷ [])
 measured_continues old new recorded x v h matched taken levels fine is step =
@@ -73,11 +56,9 @@ measured_continues old new recorded x v h matched taken levels fine is step =
     let m = old.matched in
     record {
       voltages = h.voltages ++ v ∷ [];
-      cuts = h.cuts;
       intervals = h.intervals;
       are_voltages = rw matched (AllZip-push (IsVoltageInterval (nominal_of m.scale) (uncertainty_of m.scale)) recorded h.voltages x v h.are_voltages is);
-      stands = rw (matched, signs) (step (half_of m) (map is_below_zero recorded) h.voltages h.cuts h.stands);
-      are_intervals = rw (matched, parts_more (half_of m) (map is_below_zero recorded) h.voltages h.cuts v h.stands.are_cuts h.stands.same_length) h.are_intervals;
+      cut = rw (matched, signs) (HasCut-continues old.cutter new.cutter (half_of m) (map is_below_zero recorded) h.voltages h.intervals (is_below_zero x) v h.cut step);
       count = ap (λ (l : Levels). l.count) levels ∙ h.count;
       extremes = subst (λ (l : Levels). AreExtremeIntervalsIfAny h.intervals l.extremes) (sym levels) h.extremes;
       within = rw matched (within_more (nominal_of m.scale) recorded x h.within fine);
@@ -85,23 +66,18 @@ measured_continues old new recorded x v h matched taken levels fine is step =
     }
 
 -- and one before which a half-period ends
-pub measured_ends : (old new : Measure) (recorded : List Fraction) (x : Fraction) (v value : Interval) → HasMeasured old recorded → new.matched ≡ old.matched
+measured_ends : (old new : Measure) (recorded : List Fraction) (x : Fraction) (v value : Interval) → HasMeasured old recorded → new.matched ≡ old.matched
     → new.taken ≡ old.taken + 1 → Gains old.levels (Some value) new.levels → ¬ IsOverRange (nominal_of old.matched.scale) x
     → IsVoltageInterval (nominal_of old.matched.scale) (uncertainty_of old.matched.scale) x v → EndsHalfPeriod old.cutter new.cutter (is_below_zero x) v value → HasMeasured new (recorded ++ x ∷ [])
 measured_ends old new recorded x v value h matched taken gains fine is step =
     let signs = map-append is_below_zero recorded (x ∷ []) in
     let m = old.matched in
-    let half = half_of m in
-    let ends = step half (map is_below_zero recorded) h.voltages h.cuts h.stands in
-    let parts = parts_push half (map is_below_zero recorded) h.voltages h.cuts v h.stands.are_cuts h.stands.same_length in
     record {
       voltages = h.voltages ++ v ∷ [];
-      cuts = h.cuts ++ length (map is_below_zero recorded) ∷ [];
       intervals = h.intervals ++ value ∷ [];
       are_voltages = rw matched (AllZip-push (IsVoltageInterval (nominal_of m.scale) (uncertainty_of m.scale)) recorded h.voltages x v h.are_voltages is);
-      stands = rw (matched, signs) ends.stands;
-      are_intervals = rw (matched, parts) (AllZip-push (IsHalfPeriodInterval half) (half_periods h.cuts h.voltages) h.intervals (drop (last_cut h.cuts) h.voltages) value h.are_intervals ends.interval);
-      count = omega (arith, gains.0, h.count, length-append h.cuts (length (map is_below_zero recorded) ∷ []));
+      cut = rw (matched, signs) (HasCut-ends old.cutter new.cutter (half_of m) (map is_below_zero recorded) h.voltages h.intervals (is_below_zero x) v value h.cut step);
+      count = omega (arith, gains.0, h.count, length-append h.intervals (value ∷ []));
       extremes = subst (AreExtremeIntervalsIfAny (h.intervals ++ value ∷ [])) (sym gains.2) (gains.3 h.intervals h.extremes);
       within = rw matched (within_more (nominal_of m.scale) recorded x h.within fine);
       taken = omega (arith, taken, h.taken, length-append recorded (x ∷ []));
@@ -123,12 +99,16 @@ half_some L120 R4800 = omega arith
 -- at the end these are the levels
 pub measured_levels : (m : Measure) (recorded : List Fraction) → 0 < nominal_of m.matched.scale → HasMeasured m recorded
     → AreLevels (half_of m.matched) (nominal_of m.matched.scale) (uncertainty_of m.matched.scale) recorded m.levels
-measured_levels m recorded high h = record {
-  cuts = h.cuts;
-  are_cuts = h.stands.are_cuts;
-  count = h.count;
-  extremes = are_extremes_if_any (half_of m.matched) (nominal_of m.matched.scale) (uncertainty_of m.matched.scale) recorded h.voltages h.cuts h.intervals m.levels.extremes (half_some m.matched.lamp m.matched.rate) high h.stands.are_cuts h.are_voltages h.are_intervals h.extremes;
-}
+measured_levels m recorded high h =
+    let half = half_of m.matched in
+    let cuts = h.cut.cuts in
+    let same : length (half_periods cuts h.voltages) ≡ length h.intervals = AllZip-length (IsHalfPeriodInterval half) (half_periods cuts h.voltages) h.intervals h.cut.are_intervals in
+    record {
+      cuts = cuts;
+      are_cuts = h.cut.stands.are_cuts;
+      count = h.count ∙ sym same ∙ length-half_periods cuts h.voltages;
+      extremes = are_extremes_if_any half (nominal_of m.matched.scale) (uncertainty_of m.matched.scale) recorded h.voltages cuts h.intervals m.levels.extremes (half_some m.matched.lamp m.matched.rate) high h.cut.stands.are_cuts h.are_voltages h.cut.are_intervals h.extremes;
+    }
 
 -- ---- the records of a block
 

@@ -1,19 +1,16 @@
 -- The answer is one: words and files have one outcome.
-use Rattle.std.proofs.Common.{◌≡◌, ℕ, ◌+◌, List, [], ◌∷◌, length, map, refl, sym, ap, ◌∙◌, subst, arith, inl, inr}
+use Rattle.std.proofs.Common.{◌≡◌, ℕ, ◌+◌, List, [], ◌∷◌, map, sym, ap, ◌∙◌, subst, inl, inr}
 use Rattle.flk_num.specs.Rate.{half_at}
 use Rattle.flk_num.specs.declared.lamp.Lamp.{Lamp}
 use Rattle.flk_cfg.specs.declared.config.Analog.{Analog}
 use Rattle.flk_cfg.specs.declared.config.Config.{Config}
-use Rattle.flk_cfg.proofs.LineLaws.{one_first_fault}
-use Rattle.flk_dat.specs.Kinds.{data_kind_number as record_kind}
-use Rattle.flk_dat.specs.Records.{DataRecord, record_at, layout_of}
-use Rattle.flk_dat.specs.declared.kind.Kind.{Kind as RecordKind}
+use Rattle.flk_dat.specs.Records.{record_at, layout_of}
 use Rattle.flk_dat.proofs.FileLaws.{file_once, accepted_or_fault_after, one_fault_after}
 use Rattle.flk_top.specs.Answer.{IsDueFor, IsDue, usage, asked}
 use Rattle.flk_top.specs.CheckDue.{IsDueForSummary, file_fault, checked, IsDueForCheck, no_configuration as unread, read}
 use Rattle.flk_top.specs.Command.{inputs_of}
-use Rattle.flk_top.specs.Configuration.{IsConfiguration, IsConfigurationFault, too_long, first_fault}
-use Rattle.flk_top.specs.Faults.{match_line, data_line, range_line}
+use Rattle.flk_top.specs.Configuration.{IsConfiguration}
+use Rattle.flk_top.specs.Faults.{match_line, range_line}
 use Rattle.flk_top.specs.Levels.{AreLevels}
 use Rattle.flk_top.specs.LevelsDue.{IsDueForRecording, data_fault, over_range, measured, IsDueForLevels, no_configuration, no_match, matched}
 use Rattle.flk_top.specs.Matching.{IsMatchFault, recorded_voltages}
@@ -21,25 +18,18 @@ use Rattle.flk_top.specs.Outcome.{Outcome, completed}
 use Rattle.flk_top.specs.Text.{check_text}
 use Rattle.flk_top.specs.Told.{Files}
 use Rattle.flk_top.specs.declared.command.Command.{Command}
-use Rattle.flk_top.specs.declared.command.Command.TheVariants.{Levels, Check, Tables}
+use Rattle.flk_top.specs.declared.command.Command.TheVariants.{Levels, Check, Tables, Report}
 use Rattle.flk_top.specs.declared.command.LevelsCommand.{LevelsCommand}
 use Rattle.flk_scale.specs.declared.fault.MatchFault.{MatchFault}
 use Rattle.flk_scale.proofs.MatchingLemmas.{measured_has_no_fault, one_fault}
-use Rattle.flk_top.proofs.Headline.{configuration_or_fault, one_configuration, over_or_fault, over_or_accepted, one_over, same_recording, measured_or_fault}
+use Rattle.flk_top.proofs.Headline.{configuration_or_fault, one_configuration_fault, one_configuration, data_line_same, over_or_fault, over_or_accepted, one_over, same_recording, measured_or_fault}
 use Rattle.flk_top.proofs.LevelsOnce.{levels_text_same}
 use Rattle.flk_top.proofs.OneCommand.{one_command}
 use Rattle.flk_top.proofs.Outcomes.{agreed}
+use Rattle.flk_top.proofs.ReportOnce.{one_report}
 use Rattle.flk_top.proofs.TablesLemmas.{one_table}
 
--- ---- the fault of a configuration, and of the tests on it
-
-one_configuration_fault : (bytes xs ys : List ℕ) → IsConfigurationFault bytes xs → IsConfigurationFault bytes ys → xs ≡ ys
-one_configuration_fault bytes xs ys (too_long long text) (too_long more line) = text ∙ sym line
-one_configuration_fault bytes xs ys (too_long long text) (first_fault l f k small fault line) = absurd (omega (arith, long, small))
-one_configuration_fault bytes xs ys (first_fault l f k small fault text) (too_long more line) = absurd (omega (arith, more, small))
-one_configuration_fault bytes xs ys (first_fault l f k small fault text) (first_fault m g h few other line) =
-    let same = one_first_fault bytes l m f g k h fault other in
-    text ∙ rw (same.0, same.1, same.2) refl ∙ sym line
+-- ---- the fault of the tests on a configuration
 
 one_match_fault : (c : Config) (channel : ℕ) (f g : MatchFault) → IsMatchFault c channel f → IsMatchFault c channel g → f ≡ g
 one_match_fault c channel f g (inl h) (inl k) = one_fault c channel f g h k
@@ -53,10 +43,6 @@ same_match_line bytes channel x y f g is that failed other =
     ap match_line (one_match_fault y channel f g (subst (λ i. IsMatchFault i channel f) (one_configuration bytes x y is that) failed) other)
 
 -- ---- the data
-
-data_line_same : (rs ss : List DataRecord) (field place : ℕ) (kind again : RecordKind) → (rs ≡ ss) × (field ≡ place) × (kind ≡ again)
-    → data_line (length rs + 1) field (record_kind kind) ≡ data_line (length ss + 1) place (record_kind again)
-data_line_same rs ss field place kind again same = rw (same.0, same.1, same.2) refl
 
 one_recording : (channel nominal uncertainty : ℕ) (c : Config) (a : Analog) (lamp : Lamp) (bytes : List ℕ) (o p : Outcome)
     → IsDueForRecording channel nominal uncertainty c a lamp bytes o → IsDueForRecording channel nominal uncertainty c a lamp bytes p → o ≡ p
@@ -125,6 +111,11 @@ one_due_for Check (x ∷ y ∷ []) o p h k = one_check x y o p h k
 one_due_for Check (x ∷ y ∷ z ∷ more) o p h k = absurd h
 one_due_for (Tables lamp rate) [] o p h k = one_table lamp rate o p h k
 one_due_for (Tables lamp rate) (x ∷ more) o p h k = absurd h
+one_due_for (Report command) [] o p h k = absurd h
+one_due_for (Report command) (x ∷ []) o p h k = absurd h
+one_due_for (Report command) (x ∷ y ∷ []) o p h k = absurd h
+one_due_for (Report command) (x ∷ y ∷ z ∷ []) o p h k = one_report x y z o p h k
+one_due_for (Report command) (x ∷ y ∷ z ∷ w ∷ more) o p h k = absurd h
 
 pub one_answer : (words : List (List ℕ)) (files : Files) (o p : Outcome) → IsDue words files o → IsDue words files p → o ≡ p
 one_answer words files o p (usage none out) (usage never also) = out ∙ sym also

@@ -1,5 +1,5 @@
 -- Words ask for one command at most, whose inputs have names that differ.
-use Rattle.std.proofs.Common.{◌≡◌, ◌⊎◌, ℕ, ◌*◌, ◌≤◌, List, length, get_or, refl, sym, ap, subst, ◌∙◌, arith, inl, inr}
+use Rattle.std.proofs.Common.{◌≡◌, ℕ, ◌*◌, ◌≤◌, List, length, get_or, refl, sym, ap, subst, ◌∙◌, arith, inl, inr}
 use Rattle.std.proofs.Math.Bridge.{le_prop}
 use Rattle.flk_num.specs.declared.lamp.Lamp.{Lamp}
 use Rattle.flk_num.specs.declared.lamp.Lamp.TheVariants.{L230, L120}
@@ -7,10 +7,12 @@ use Rattle.flk_num.specs.declared.rate.Rate.{Rate}
 use Rattle.flk_num.specs.declared.rate.Rate.TheVariants.{R2400, R4800}
 use Rattle.flk_scale.specs.declared.supply.Supply.{Supply}
 use Rattle.flk_cfg.specs.Canonical.{rate_text}
-use Rattle.flk_top.specs.Command.{IsNumberIn, IsCheck, lamp_word, AsksRate, IsTables, Asks, inputs_of}
+use Rattle.flk_job.specs.Table.{lamp_name}
+use Rattle.flk_top.specs.Command.{IsNumberIn, IsCheck, AsksRate, IsTables, Asks, inputs_of}
 use Rattle.flk_top.specs.declared.command.LevelsCommand.{LevelsCommand}
+use Rattle.flk_top.specs.declared.command.ReportCommand.{ReportCommand}
 use Rattle.flk_top.specs.declared.command.Command.{Command}
-use Rattle.flk_top.specs.declared.command.Command.TheVariants.{Levels, Check, Tables}
+use Rattle.flk_top.specs.declared.command.Command.TheVariants.{Levels, Check, Tables, Report}
 use Rattle.flk_top.proofs.AgreeingFiles.{AreApart}
 
 -- a word has one number
@@ -22,10 +24,10 @@ differs_at : {A : Type 0} (i a b : ℕ) (xs ys : List ℕ) → xs ≡ ys → get
 differs_at i a b xs ys same here there other = absurd (other (sym here ∙ ap (λ zs. get_or zs i 0) same ∙ there))
 
 -- the words of the lamps, and of the rates, differ
-one_lamp : (text : List ℕ) (a b : Lamp) → text ≡ lamp_word a → text ≡ lamp_word b → a ≡ b
+one_lamp : (text : List ℕ) (a b : Lamp) → text ≡ lamp_name a → text ≡ lamp_name b → a ≡ b
 one_lamp text L230 L230 h k = refl
-one_lamp text L230 L120 h k = differs_at 0 50 49 (lamp_word L230) (lamp_word L120) (sym h ∙ k) refl refl (λ e. omega (arith, e))
-one_lamp text L120 L230 h k = differs_at 0 49 50 (lamp_word L120) (lamp_word L230) (sym h ∙ k) refl refl (λ e. omega (arith, e))
+one_lamp text L230 L120 h k = differs_at 0 50 49 (lamp_name L230) (lamp_name L120) (sym h ∙ k) refl refl (λ e. omega (arith, e))
+one_lamp text L120 L230 h k = differs_at 0 49 50 (lamp_name L120) (lamp_name L230) (sym h ∙ k) refl refl (λ e. omega (arith, e))
 one_lamp text L120 L120 h k = refl
 
 one_rate_text : (text : List ℕ) (a b : Rate) → text ≡ rate_text a → text ≡ rate_text b → a ≡ b
@@ -43,11 +45,11 @@ one_rate words a b (inr h) (inr k) = one_rate_text _ a b h.1 k.1
 check_or_tables : {A : Type 0} (words : List (List ℕ)) (lamp : Lamp) (rate : Rate) → IsCheck words → IsTables words lamp rate → A
 check_or_tables words lamp rate h k = differs_at 0 99 116 _ _ (sym h.command ∙ k.command) refl refl (λ e. omega (arith, e))
 
-few_words : (words : List (List ℕ)) (lamp : Lamp) (rate : Rate) → IsTables words lamp rate → ¬ (length words ≡ 6)
-few_words words lamp rate h six = elim h.rate_is [ inl asks ↦ omega (arith, asks.0, six) | inr asks ↦ omega (arith, asks.0, six) ]
+few_words : (words : List (List ℕ)) (lamp : Lamp) (rate : Rate) → IsTables words lamp rate → length words ≤ 3
+few_words words lamp rate h = elim h.rate_is [ inl asks ↦ omega (arith, asks.0) | inr asks ↦ omega (arith, asks.0) ]
 
 -- a supply is its two numbers
-same_supply : (a b : Supply) → a.nominal_mv ≡ b.nominal_mv → a.uncertainty_uv ≡ b.uncertainty_uv → a ≡ b
+pub same_supply : (a b : Supply) → a.nominal_mv ≡ b.nominal_mv → a.uncertainty_uv ≡ b.uncertainty_uv → a ≡ b
 same_supply a b nominal uncertainty =
     subst (λ (n : ℕ). (low : 1000 ≤ n) (high : n ≤ 1000000) (far : b.uncertainty_uv ≤ 10 * n)
     → a ≡ record { nominal_mv = n; uncertainty_uv = b.uncertainty_uv; nominal_low = low; nominal_high = high; uncertainty_high = far })
@@ -67,22 +69,34 @@ same_supply a b nominal uncertainty =
 same_levels : (a b : LevelsCommand) → a.channel ≡ b.channel → a.supply ≡ b.supply → a ≡ b
 same_levels a b channel supply = λ i. record { channel = channel i; supply = supply i }
 
+same_report : (a b : ReportCommand) → a.workers ≡ b.workers → a ≡ b
+same_report a b workers = λ i. record { workers = workers i }
+
 pub one_command : (words : List (List ℕ)) (p q : Command) → Asks words p → Asks words q → p ≡ q
 one_command words (Levels a) (Levels b) h k =
     ap Levels (same_levels a b (one_number _ _ _ _ _ _ _ h.channel_word k.channel_word)
     (same_supply a.supply b.supply (one_number _ _ _ _ _ _ _ h.nominal_word k.nominal_word) (one_number _ _ _ _ _ _ _ h.uncertainty_word k.uncertainty_word)))
 one_command words (Levels a) Check h k = absurd (omega (arith, h.count, k.count))
-one_command words (Levels a) (Tables lamp rate) h k = absurd (few_words words lamp rate k h.count)
+one_command words (Levels a) (Tables lamp rate) h k = absurd (omega (arith, few_words words lamp rate k, h.count))
 one_command words Check (Levels b) h k = absurd (omega (arith, h.count, k.count))
 one_command words Check Check h k = refl
 one_command words Check (Tables lamp rate) h k = check_or_tables words lamp rate h k
-one_command words (Tables lamp rate) (Levels b) h k = absurd (few_words words lamp rate h k.count)
+one_command words (Tables lamp rate) (Levels b) h k = absurd (omega (arith, few_words words lamp rate h, k.count))
 one_command words (Tables lamp rate) Check h k = check_or_tables words lamp rate k h
 one_command words (Tables lamp rate) (Tables other second) h k =
     ap (λ l. Tables l rate) (one_lamp _ lamp other h.lamp_is k.lamp_is) ∙ ap (λ r. Tables other r) (one_rate words rate second h.rate_is k.rate_is)
+one_command words (Levels a) (Report b) h k = absurd (omega (arith, h.count, k.count))
+one_command words Check (Report b) h k = absurd (omega (arith, h.count, k.count))
+one_command words (Tables lamp rate) (Report b) h k = absurd (omega (arith, few_words words lamp rate h, k.count))
+one_command words (Report a) (Levels b) h k = absurd (omega (arith, h.count, k.count))
+one_command words (Report a) Check h k = absurd (omega (arith, h.count, k.count))
+one_command words (Report a) (Tables lamp rate) h k = absurd (omega (arith, few_words words lamp rate k, h.count))
+one_command words (Report a) (Report b) h k = ap Report (same_report a b (one_number _ _ _ _ _ _ _ h.workers_word k.workers_word))
 
 -- no input of a command stands twice
 pub inputs_apart : (words : List (List ℕ)) (q : Command) → Asks words q → AreApart (inputs_of q words)
 inputs_apart words (Levels command) asks = ((asks.names, tt), (tt, tt))
 inputs_apart words Check asks = ((asks.names, tt), (tt, tt))
 inputs_apart words (Tables lamp rate) asks = tt
+inputs_apart words (Report command) asks =
+    ((asks.names.job_configuration, (asks.names.job_data, tt)), ((asks.names.configuration_data, tt), (tt, tt)))

@@ -4,26 +4,24 @@ use Rattle.std.specs.Prelude.{slice_index_or, Contains}
 use Rattle.std.specs.List.{AllZip}
 use Rattle.std.proofs.lemmas.List.{append-nil}
 use Rattle.flk_io.specs.Causes.{TakesAll, TakesFront}
-use Rattle.flk_io.specs.Told.{ShelfTold, OnlyReads, ReadsUnder}
-use Rattle.flk_io.proofs.Told.{OnlyReads-trans}
-use Rattle.flk_num.specs.declared.lamp.Lamp.{Lamp}
+use Rattle.flk_io.specs.Told.{ShelfTold, ReadsUnder}
 use Rattle.flk_num.specs.declared.stop.Stop.TheVariants.{Fault}
 use Rattle.flk_cfg.specs.File.{IsFileAnswer}
 use Rattle.flk_cfg.specs.declared.config.Analog.{Analog}
 use Rattle.flk_cfg.specs.declared.config.Config.{Config}
 use Rattle.flk_cfg.specs.Kinds.{kind_number}
 use Rattle.flk_cfg.specs.declared.kind.CfgFault.{CfgFault}
-use Rattle.flk_cfg.specs.declared.kind.Kind.TheVariants.{Length}
-use Rattle.flk_top.specs.Answer.{IsDueFor, ComesToTurn}
-use Rattle.flk_top.specs.CheckDue.{IsDueForSummary, IsDueForCheck, no_configuration as unread, read}
-use Rattle.flk_top.specs.Command.{Asks, IsCheck, inputs_of, configuration_name, data_name}
+use Rattle.flk_field.specs.declared.kind.Kind.TheVariants.{Length}
+use Rattle.flk_top.specs.Answer.{ComesToTurn}
+use Rattle.flk_top.specs.CheckDue.{IsDueForSummary, no_configuration as unread, read}
+use Rattle.flk_top.specs.Command.{Asks, IsCheck, configuration_name, data_name}
 use Rattle.flk_top.specs.Configuration.{configuration_limit, IsConfiguration, IsConfigurationFault, too_long, first_fault}
 use Rattle.flk_top.specs.Faults.{configuration_line, match_line}
-use Rattle.flk_top.specs.LevelsDue.{IsDueForRecording, IsDueForLevels, no_configuration, no_match, matched}
-use Rattle.flk_top.specs.Matching.{Matches, IsMatchFault}
+use Rattle.flk_top.specs.LevelsDue.{IsDueForRecording, no_configuration, no_match, matched}
+use Rattle.flk_top.specs.Matching.{IsMatchFault}
 use Rattle.flk_top.specs.Measuring.{IsMatched}
-use Rattle.flk_top.specs.Outcome.{Outcome, refusal}
-use Rattle.flk_top.specs.Replies.{outcome_of, IsExplained, IsHonest, ReadsOnly, AwaitsTurns}
+use Rattle.flk_top.specs.Outcome.{refusal}
+use Rattle.flk_top.specs.Replies.{outcome_of, IsExplained, ReadsOnly, AwaitsTurns}
 use Rattle.flk_top.specs.Told.{MayHold}
 use Rattle.flk_top.specs.declared.command.Command.{Command}
 use Rattle.flk_top.specs.declared.command.Command.TheVariants.{Levels, Check}
@@ -49,7 +47,7 @@ all_may_be (Some xs) (Some ys) bytes took = λ held is.
 -- ---- the configuration
 
 -- what may be there where more was read than the limit
-too_long_may_be : (old new : Option (List ℕ)) (limit : ℕ) → TakesFront old new (limit + 1) → (bytes : List ℕ) × MayHold old bytes × (limit < length bytes)
+pub too_long_may_be : (old new : Option (List ℕ)) (limit : ℕ) → TakesFront old new (limit + 1) → (bytes : List ℕ) × MayHold old bytes × (limit < length bytes)
 too_long_may_be None new limit took = (took.0, (λ held is. cc), omega (arith, took.1))
 too_long_may_be (Some xs) None limit took = absurd took.2
 too_long_may_be (Some xs) (Some ys) limit took =
@@ -205,24 +203,3 @@ check_in_turn words old new name c is found = turns
     turns (x ∷ contents) tells (suc i) less never =
         let same = told_first words old name found.0 x contents is found.1 tells in
         absurd (never (c, subst (λ (y : List ℕ). IsConfiguration y c) same found.2))
-
--- ---- honest replies
-
--- a fault line of the words or the files says nothing of a read
-pub refused_honest : {E : Type 0} (line : List ℕ) (old new : ShelfTold) (r : Result Reply E) → IfOk r (λ x. (x.status ≡ Refused) × (string_bytes x.text ≡ line))
-    → new.read_faults ≡ old.read_faults → IfOk r (IsHonest old new)
-refused_honest line old new (Ok x) h same = record {
-  text = λ failed. let refused = h.0 in cc;
-  rose = λ failed. let refused = h.0 in cc;
-  quiet = λ other. same;
-}
-refused_honest line old new (Err e) h same = tt
-
--- what is honest of the second reading is honest of both
-pub honest_on : {E : Type 0} (old mid new : ShelfTold) (r : Result Reply E) → mid.read_faults ≡ old.read_faults → IfOk r (IsHonest mid new) → IfOk r (IsHonest old new)
-honest_on old mid new (Ok x) same h = record {
-  text = h.text;
-  rose = λ failed. rw same at (h.rose failed);
-  quiet = λ other. h.quiet other ∙ same;
-}
-honest_on old mid new (Err e) same h = tt

@@ -1,33 +1,33 @@
 -- From a composed reply, and from its writing, to what is promised of a run.
-use Rattle.std.proofs.Common.{◌≡◌, ◌≢◌, ℕ, zero, suc, ◌+◌, ◌<◌, ◌≤◌, List, [], ◌∷◌, ◌++◌, length, take, map, Option, Some, None, Result, Ok, Err, IfOk, refl, sym, ap, ◌∙◌, subst, string_bytes, arith, inl, inr}
-use Rattle.std.specs.Prelude.{slice_index_or, Contains, if◌then◌else◌}
-use Rattle.std.specs.List.{AllZip}
+use Rattle.std.proofs.Common.{◌≡◌, ◌≢◌, ℕ, suc, ◌<◌, ◌≤◌, List, [], ◌∷◌, take, map, Option, Some, Result, Ok, Err, IfOk, refl, sym, ap, ◌∙◌, subst, string_bytes, arith, inl, inr}
+use Rattle.std.specs.Prelude.{Contains}
 use Rattle.std.specs.Str.{bytes_eq}
 use Rattle.std.specs.Io.KnownBytes.{Appends}
 use Rattle.std.proofs.KnownBytes.{Appends-nil}
 use Rattle.std.proofs.lemmas.Bool.{cases_Bool}
-use Rattle.flk_io.specs.Causes.{Rose, AddsFront, HasCause}
+use Rattle.flk_io.specs.Causes.{Rose, AddsFront}
 use Rattle.flk_io.specs.Told.{ShelfTold, SinkTold, OnlyReads}
 use Rattle.flk_num.specs.declared.lamp.Lamp.{Lamp}
 use Rattle.flk_num.specs.declared.rate.Rate.{Rate}
-use Rattle.flk_top.specs.Answer.{IsDueFor, IsDue, usage, asked, ComesToTurn}
-use Rattle.flk_top.specs.Command.{Asks, IsNoCommand, inputs_of, IsInput, IsOutput}
-use Rattle.flk_top.specs.Faults.{read_line, usage_line}
-use Rattle.flk_top.specs.Headline.{MeasuredRecording, AreAccepted, TellsLevels}
-use Rattle.flk_top.specs.Outcome.{Piece, Outcome, appended_under, AreFirstPieces}
+use Rattle.flk_top.specs.Answer.{IsDueFor, IsDue, usage, asked}
+use Rattle.flk_top.specs.Command.{Asks, IsNoCommand, inputs_of, IsInput}
+use Rattle.flk_top.specs.Faults.{usage_line}
+use Rattle.flk_top.specs.Headline.{MeasuredRecording, AreAccepted, TellsLevels, ReportedRecording, AreAcceptedForReport, TellsReport}
+use Rattle.flk_top.specs.Outcome.{Piece, Outcome, appended_under}
 use Rattle.flk_top.specs.Replies.{outcome_of, IsExplained, IsHonest, ReadsOnly, AwaitsTurns}
-use Rattle.flk_top.specs.Run.{IsDone, IsCut, read, write, read_and_write, memory, IsCounted, IsConfined, DoneIsDue, CutIsDue, ReadsInTurn}
+use Rattle.flk_top.specs.Run.{IsCut, read, write, read_and_write, memory, IsCounted, IsConfined, DoneIsDue, CutIsDue, ReadsInTurn}
 use Rattle.flk_top.specs.Status.{status_number}
 use Rattle.flk_top.specs.Tables.{IsDueForTables}
-use Rattle.flk_top.specs.Told.{Files, MayHold, Agrees, TellsInputs, AreAppended, AreBegun}
+use Rattle.flk_top.specs.Told.{Files, Agrees, TellsInputs, AreAppended, AreBegun}
 use Rattle.flk_top.specs.declared.command.Command.{Command}
 use Rattle.flk_top.specs.declared.command.Command.TheVariants.{Tables}
 use Rattle.flk_top.specs.declared.reply.Reply.{Reply}
 use Rattle.flk_top.specs.declared.reply.Status.{Status}
-use Rattle.flk_top.specs.declared.reply.Status.TheVariants.{Done, Refused, ReadFailed}
+use Rattle.flk_top.specs.declared.reply.Status.TheVariants.{Done, Failed, Undecided, Refused, ReadFailed}
 use Rattle.flk_top.proofs.AgreeingFiles.{files_with, files_agree, files_have, same_contents, contains_first}
 use Rattle.flk_top.proofs.AnswerExists.{some_answer}
 use Rattle.flk_top.proofs.Headline.{tells_levels}
+use Rattle.flk_top.proofs.ReportHeadline.{tells_report}
 use Rattle.flk_top.proofs.OneCommand.{one_command, inputs_apart}
 use Rattle.flk_top.proofs.Outcomes.{is_refusal}
 
@@ -90,17 +90,23 @@ none_appended old new reads = λ name. nothing_appended old new name reads
 
 pub known_status : (s : Status) (n : ℕ) → n ≡ status_number s → n ≤ 6
 known_status Done n is = omega (arith, is)
+known_status Failed n is = omega (arith, is)
+known_status Undecided n is = omega (arith, is)
 known_status Refused n is = omega (arith, is)
 known_status ReadFailed n is = omega (arith, is)
 
 -- only a failed read is told by 4, and nothing composed by more
 not_failed : (s : Status) (n : ℕ) → n ≡ status_number s → n < 4 → s ≢ ReadFailed
 not_failed Done n is less same = cc
+not_failed Failed n is less same = cc
+not_failed Undecided n is less same = cc
 not_failed Refused n is less same = cc
 not_failed ReadFailed n is less same = omega (arith, is, less)
 
 read_failed : (s : Status) (n : ℕ) → n ≡ status_number s → 4 ≤ n → s ≡ ReadFailed
 read_failed Done n is four = absurd (omega (arith, is, four))
+read_failed Failed n is four = absurd (omega (arith, is, four))
+read_failed Undecided n is four = absurd (omega (arith, is, four))
 read_failed Refused n is four = absurd (omega (arith, is, four))
 read_failed ReadFailed n is four = refl
 
@@ -145,6 +151,8 @@ done_counted n old new was is r number reads honest kept = record {
   where
     four_at : (s : Status) → n ≡ status_number s → (s ≢ ReadFailed → new.read_faults ≡ old.read_faults) → old.read_faults < new.read_faults → 4 ≤ n
     four_at Done is quiet rose = absurd (omega (arith, rose, quiet (λ same. cc)))
+    four_at Failed is quiet rose = absurd (omega (arith, rose, quiet (λ same. cc)))
+    four_at Undecided is quiet rose = absurd (omega (arith, rose, quiet (λ same. cc)))
     four_at Refused is quiet rose = absurd (omega (arith, rose, quiet (λ same. cc)))
     four_at ReadFailed is quiet rose = omega (arith, is)
 
@@ -162,6 +170,8 @@ written_cut words old new was is r reads honest due input rose front = λ four. 
 
     by_status : (s : Status) → r.status ≡ s → (files : Files) × (o : Outcome) × Agrees old files × IsDue words files o × IsCut words o 5 old new was is
     by_status Done same = whole (λ failed. cc)
+    by_status Failed same = whole (λ failed. cc)
+    by_status Undecided same = whole (λ failed. cc)
     by_status Refused same = whole (λ failed. cc)
     by_status ReadFailed same =
         let there = input same in
@@ -217,6 +227,18 @@ done_levels words n old new was is done less files tells m accepted =
     let same = inputs_decided words out.0 files (λ name input. sym (out.2 name (files name) (tells name input))) out.1 out.3 in
     let told = tells_levels words files m out.1 accepted same in
     let P : ℕ → Type 0 = λ s. TellsLevels m s out.1.text in
+    (out.1.text, subst P (sym out.4.status) told, out.4.text)
+
+-- ---- the report of accepted files
+
+pub done_report : (words : List (List ℕ)) (n : ℕ) (old new : ShelfTold) (was is : SinkTold) → DoneIsDue words n old new was is
+    → n < 4 → (files : Files) → TellsInputs words old files → (m : ReportedRecording) → AreAcceptedForReport words files m
+    → (text : List ℕ) × TellsReport m n text × Appends was.written is.written text
+done_report words n old new was is done less files tells m accepted =
+    let out = done less in
+    let same = inputs_decided words out.0 files (λ name input. sym (out.2 name (files name) (tells name input))) out.1 out.3 in
+    let told = tells_report words files m out.1 accepted same in
+    let P : ℕ → Type 0 = λ s. TellsReport m s out.1.text in
     (out.1.text, subst P (sym out.4.status) told, out.4.text)
 
 -- ---- the names

@@ -3,16 +3,18 @@ use Rattle.std.proofs.Common.{◌≡◌, ◌≢◌, ◌⊎◌, ℕ, ◌*◌, Lis
 use Rattle.std.specs.Char.{digit_value}
 use Rattle.std.specs.Str.Parse.{AllDigits, digits_value}
 use Rattle.std.proofs.lemmas.Bool.{cases_lt, cases_eq}
-use Rattle.flk_cfg.proofs.SetCases.{same_text}
+use Rattle.flk_field.proofs.SetCases.{same_text}
 use Rattle.flk_num.specs.declared.lamp.Lamp.{Lamp}
 use Rattle.flk_num.specs.declared.lamp.Lamp.TheVariants.{L230, L120}
 use Rattle.flk_num.specs.declared.rate.Rate.{Rate}
 use Rattle.flk_num.specs.declared.rate.Rate.TheVariants.{R2400, R4800}
 use Rattle.flk_cfg.specs.Canonical.{rate_text}
-use Rattle.flk_top.specs.Command.{IsNumber, IsNumberIn, word, configuration_name, data_name, IsLevels, IsCheck, AsksRate, IsTables, lamp_word, Asks, IsNoCommand}
+use Rattle.flk_job.specs.Table.{lamp_name}
+use Rattle.flk_top.specs.Command.{IsNumber, IsNumberIn, word, configuration_name, data_name, IsLevels, IsCheck, AsksRate, IsTables, Asks, IsNoCommand}
+use Rattle.flk_top.specs.Command.{job_name, report_configuration_name, report_data_name, AreReportNames, IsReport}
 use Rattle.flk_top.specs.declared.command.LevelsCommand.{LevelsCommand}
 use Rattle.flk_top.specs.declared.command.Command.{Command}
-use Rattle.flk_top.specs.declared.command.Command.TheVariants.{Levels, Check, Tables}
+use Rattle.flk_top.specs.declared.command.Command.TheVariants.{Levels, Check, Tables, Report}
 use Rattle.flk_top.proofs.OneCommand.{one_number}
 
 -- ---- numbers
@@ -108,17 +110,17 @@ check_cases words =
       ]
     ]
 
-lamp_cases : (text : List ℕ) → ((lamp : Lamp) × (text ≡ lamp_word lamp)) ⊎ ((lamp : Lamp) → text ≢ lamp_word lamp)
+lamp_cases : (text : List ℕ) → ((lamp : Lamp) × (text ≡ lamp_name lamp)) ⊎ ((lamp : Lamp) → text ≢ lamp_name lamp)
 lamp_cases text =
-    elim (same_text text (lamp_word L230)) [
+    elim (same_text text (lamp_name L230)) [
       | inl same ↦ inl (L230, same)
-      | inr first ↦ elim (same_text text (lamp_word L120)) [
+      | inr first ↦ elim (same_text text (lamp_name L120)) [
         | inl same ↦ inl (L120, same)
         | inr second ↦ inr (none first second)
       ]
     ]
   where
-    none : text ≢ lamp_word L230 → text ≢ lamp_word L120 → (lamp : Lamp) → text ≢ lamp_word lamp
+    none : text ≢ lamp_name L230 → text ≢ lamp_name L120 → (lamp : Lamp) → text ≢ lamp_name lamp
     none first second L230 same = first same
     none first second L120 same = second same
 
@@ -159,10 +161,46 @@ tables_cases words =
       ]
     ]
 
-pub no_command : (words : List (List ℕ)) → NoLevels words → ¬ IsCheck words → ((lamp : Lamp) (rate : Rate) → ¬ IsTables words lamp rate) → IsNoCommand words
-no_command words levels check tables (Levels command) is = levels command.channel command.supply.nominal_mv command.supply.uncertainty_uv is
-no_command words levels check tables Check is = check is
-no_command words levels check tables (Tables lamp rate) is = tables lamp rate is
+names_cases : (words : List (List ℕ)) → AreReportNames words ⊎ ¬ AreReportNames words
+names_cases words =
+    elim (same_text (job_name words) (report_configuration_name words)) [
+      | inl same ↦ inr (λ is. is.job_configuration same)
+      | inr first ↦ elim (same_text (job_name words) (report_data_name words)) [
+        | inl same ↦ inr (λ is. is.job_data same)
+        | inr second ↦ elim (same_text (report_configuration_name words) (report_data_name words)) [
+          | inl same ↦ inr (λ is. is.configuration_data same)
+          | inr third ↦ inl (record { job_configuration = first; job_data = second; configuration_data = third })
+        ]
+      ]
+    ]
+
+abbrev pub NoReport : List (List ℕ) → Type 0
+NoReport words = (workers : ℕ) → ¬ IsReport words workers
+
+report_cases : (words : List (List ℕ)) → ((workers : ℕ) × IsReport words workers) ⊎ NoReport words
+report_cases words =
+    elim (cases_eq (length words) 5) [
+      | inr other ↦ inr (λ w is. other is.count)
+      | inl count ↦ elim (same_text (word words 0) (codes "report")) [
+        | inr other ↦ inr (λ w is. other is.command)
+        | inl command ↦ elim (names_cases words) [
+          | inr other ↦ inr (λ w is. other is.names)
+          | inl names ↦ elim (in_cases 1 16 (word words 4)) [
+            | inr none ↦ inr (λ w is. none w is.workers_word)
+            | inl workers ↦ inl (workers.0, record { count = count; command = command; names = names; workers_word = workers.1 })
+          ]
+        ]
+      ]
+    ]
+
+abbrev NoTables : List (List ℕ) → Type 0
+NoTables words = (lamp : Lamp) (rate : Rate) → ¬ IsTables words lamp rate
+
+pub no_command : (words : List (List ℕ)) → NoLevels words → ¬ IsCheck words → NoTables words → NoReport words → IsNoCommand words
+no_command words levels check tables report (Levels command) is = levels command.channel command.supply.nominal_mv command.supply.uncertainty_uv is
+no_command words levels check tables report Check is = check is
+no_command words levels check tables report (Tables lamp rate) is = tables lamp rate is
+no_command words levels check tables report (Report command) is = report command.workers is
 
 -- what `levels` is asked for by these numbers
 abbrev levels_asked : (words : List (List ℕ)) (channel nominal uncertainty : ℕ) → IsLevels words channel nominal uncertainty → LevelsCommand
@@ -186,7 +224,10 @@ asked_for words =
         | inl check ↦ inl (Check, check)
         | inr no_check ↦ elim (tables_cases words) [
           | inl tables ↦ inl (Tables tables.0 tables.1, tables.2)
-          | inr no_tables ↦ inr (no_command words no_levels no_check no_tables)
+          | inr no_tables ↦ elim (report_cases words) [
+            | inl report ↦ inl (Report (record { workers = report.0 }), report.1)
+            | inr no_report ↦ inr (no_command words no_levels no_check no_tables no_report)
+          ]
         ]
       ]
     ]

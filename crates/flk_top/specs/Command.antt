@@ -1,15 +1,14 @@
--- The words of the commands `levels CFG DAT CHANNEL NOMINAL_MV UNCERTAINTY_UV`, `check CFG DAT` and `tables LAMP [RATE]`, and which
--- files each reads and adds to.
+-- The words of the commands `levels CFG DAT CHANNEL NOMINAL_MV UNCERTAINTY_UV`, `check CFG DAT`, `tables LAMP [RATE]` and
+-- `report JOB CFG DAT WORKERS`, and which files each reads and adds to.
 use Rattle.std.specs.Prelude.{◌≡◌, ◌≢◌, ◌⊎◌, ℕ, ◌*◌, ◌≤◌, List, [], ◌∷◌, Contains, length, slice_index_or, codes}
 use Rattle.std.specs.Str.Parse.{IsNumeral, digits_value}
 use Rattle.flk_num.specs.declared.lamp.Lamp.{Lamp}
-use Rattle.flk_num.specs.declared.lamp.Lamp.TheVariants.{L230, L120}
 use Rattle.flk_num.specs.declared.rate.Rate.{Rate}
 use Rattle.flk_num.specs.declared.rate.Rate.TheVariants.{R2400}
 use Rattle.flk_cfg.specs.Canonical.{rate_text}
-use Rattle.flk_top.specs.declared.command.LevelsCommand.{LevelsCommand}
+use Rattle.flk_job.specs.Table.{lamp_name}
 use Rattle.flk_top.specs.declared.command.Command.{Command}
-use Rattle.flk_top.specs.declared.command.Command.TheVariants.{Levels, Check, Tables}
+use Rattle.flk_top.specs.declared.command.Command.TheVariants.{Levels, Check, Tables, Report}
 
 -- one to ten decimal digits, and the number that they write
 pub record IsNumber (word : List ℕ) (n : ℕ) : Type 0 where
@@ -48,11 +47,6 @@ pub record IsCheck (words : List (List ℕ)) : Type 0 where
   pub command : word words 0 ≡ codes "check"
   pub names : configuration_name words ≢ data_name words
 
--- the lamp's word
-abbrev pub lamp_word : Lamp → List ℕ
-lamp_word L230 = codes "230/50"
-lamp_word L120 = codes "120/60"
-
 -- no word stands for the rate of 2400 samples a second, and the word of a rate, as a configuration writes it, for that rate
 abbrev pub AsksRate : List (List ℕ) → Rate → Type 0
 AsksRate words rate = ((length words ≡ 2) × (rate ≡ R2400)) ⊎ ((length words ≡ 3) × (word words 2 ≡ rate_text rate))
@@ -60,14 +54,38 @@ AsksRate words rate = ((length words ≡ 2) × (rate ≡ R2400)) ⊎ ((length wo
 -- the words have the shape of `tables`, with this lamp, and this rate where it is named
 pub record IsTables (words : List (List ℕ)) (lamp : Lamp) (rate : Rate) : Type 0 where
   pub command : word words 0 ≡ codes "tables"
-  pub lamp_is : word words 1 ≡ lamp_word lamp
+  pub lamp_is : word words 1 ≡ lamp_name lamp
   pub rate_is : AsksRate words rate
+
+-- the names of a report's job, configuration and data
+abbrev pub job_name : List (List ℕ) → List ℕ
+job_name words = word words 1
+
+abbrev pub report_configuration_name : List (List ℕ) → List ℕ
+report_configuration_name words = word words 2
+
+abbrev pub report_data_name : List (List ℕ) → List ℕ
+report_data_name words = word words 3
+
+-- no two of the three names are the same
+pub record AreReportNames (words : List (List ℕ)) : Type 0 where
+  pub job_configuration : job_name words ≢ report_configuration_name words
+  pub job_data : job_name words ≢ report_data_name words
+  pub configuration_data : report_configuration_name words ≢ report_data_name words
+
+-- the words have the shape of `report`, with this number of workers
+pub record IsReport (words : List (List ℕ)) (workers : ℕ) : Type 0 where
+  pub count : length words ≡ 5
+  pub command : word words 0 ≡ codes "report"
+  pub names : AreReportNames words
+  pub workers_word : IsNumberIn 1 16 (word words 4) workers
 
 -- the words ask for this command
 abbrev pub Asks : List (List ℕ) → Command → Type 0
 Asks words (Levels command) = IsLevels words command.channel command.supply.nominal_mv command.supply.uncertainty_uv
 Asks words Check = IsCheck words
 Asks words (Tables lamp rate) = IsTables words lamp rate
+Asks words (Report command) = IsReport words command.workers
 
 -- the words ask for no command
 abbrev pub IsNoCommand : List (List ℕ) → Type 0
@@ -78,6 +96,7 @@ abbrev pub inputs_of : Command → List (List ℕ) → List (List ℕ)
 inputs_of (Levels command) words = configuration_name words ∷ data_name words ∷ []
 inputs_of Check words = configuration_name words ∷ data_name words ∷ []
 inputs_of (Tables lamp rate) words = []
+inputs_of (Report command) words = job_name words ∷ report_configuration_name words ∷ report_data_name words ∷ []
 
 -- the names of the files that a command appends to
 abbrev pub outputs_of : Command → List (List ℕ) → List (List ℕ)

@@ -3,8 +3,8 @@ use Rattle.std.specs.Prelude.{◌≡◌, ℕ, ◌<◌, ◌≤◌, List, length}
 use Rattle.flk_cfg.specs.File.{IsConfig, IsFirstFault}
 use Rattle.flk_cfg.specs.Kinds.{kind_number}
 use Rattle.flk_cfg.specs.declared.config.Config.{Config}
-use Rattle.flk_cfg.specs.declared.kind.Kind.{Kind}
-use Rattle.flk_cfg.specs.declared.kind.Kind.TheVariants.{Length}
+use Rattle.flk_field.specs.declared.kind.Kind.{Kind}
+use Rattle.flk_field.specs.declared.kind.Kind.TheVariants.{Length}
 use Rattle.flk_top.specs.Faults.{configuration_line}
 
 -- the greatest configuration file, in bytes

@@ -12,6 +12,10 @@ usage_line = codes "fault usage\n"
 abbrev pub read_line : List ℕ
 read_line = codes "fault read\n"
 
+-- keys are counted from 1; key 0 is the job as a whole
+abbrev pub job_line : (key kind : ℕ) → List ℕ
+job_line key kind = codes "fault job " ++ (decimal key ++ (codes " " ++ (decimal kind ++ codes "\n")))
+
 -- lines and fields are counted from 1; field 0 is the line as a whole
 abbrev pub configuration_line : (line field kind : ℕ) → List ℕ
 configuration_line line field kind =
@@ -41,6 +45,6 @@ data_line row field kind =
 abbrev pub range_line : (row channel : ℕ) → List ℕ
 range_line row channel = codes "fault range " ++ (decimal row ++ (codes " " ++ (decimal channel ++ codes "\n")))
 
--- sections are counted from 1
+-- sections are counted from 1; section 0 stands for all of them in a row
 abbrev pub lamp_line : (section : ℕ) → List ℕ
 lamp_line section = codes "fault lamp " ++ (decimal section ++ codes "\n")

@@ -1,15 +1,16 @@
 -- The levels of a recording: how many half-periods it has, and intervals that hold the least and the greatest of their values.
-use Rattle.std.specs.Prelude.{◌≡◌, ℕ, ◌+◌, ◌*◌, List, [], ◌∷◌, ◌++◌, length, map, Option, Some, None, ℤ, pos, ◌-ℤ◌, ◌≤ℤ◌}
+use Rattle.std.specs.Prelude.{◌≡◌, ℕ, ◌+◌, ◌*◌, List, [], ◌∷◌, ◌++◌, length, map, Option, Some, None, ℤ, pos, ◌≤ℤ◌}
 use Rattle.std.specs.List.{AllZip}
-use Rattle.flk_exact.specs.Fraction.{Fraction, ◌≤ℚ◌, whole}
+use Rattle.flk_exact.specs.Fraction.{Fraction}
 use Rattle.flk_exact.specs.Rounding.{IsBetween}
 use Rattle.flk_exact.specs.Run.{IsAdmittedRun, CoversDoubt}
-use Rattle.flk_exact.specs.Cut.{AreCuts, half_periods}
-use Rattle.flk_exact.specs.HalfPeriod.{AreHalfPeriodValues, half_period_width}
+use Rattle.flk_exact.specs.Cut.{AreCuts}
+use Rattle.flk_exact.specs.HalfPeriod.{AreHalfPeriodValues}
 use Rattle.flk_exact.specs.Extreme.{IsLeast, IsGreatest}
 use Rattle.flk_num.specs.declared.interval.Interval.{Interval}
+use Rattle.flk_num.specs.Interval.{lows, highs}
 use Rattle.flk_scale.specs.Voltage.{is_below_zero, IsVoltageInterval}
-use Rattle.flk_half.specs.Cutter.{IsHalfPeriodInterval}
+use Rattle.flk_half.specs.Intervals.{AreHalfPeriodIntervals, IsNarrowHalfPeriod}
 use Rattle.flk_top.specs.declared.measure.Levels.{Levels}
 use Rattle.flk_top.specs.declared.measure.Extremes.{Extremes}
 
@@ -25,13 +26,12 @@ HoldsEveryRun IsExtreme half nominal uncertainty recorded cuts v =
 -- it is at most `3 * 10^9 * delta + 3` wide, for every delta of at least `uncertainty / nominal + 2^-47`
 abbrev pub KeepsWidth : ℕ → ℕ → Interval → Type 0
 KeepsWidth nominal uncertainty v =
-    (delta : Fraction) → CoversDoubt (1000 * nominal) uncertainty delta
-    → whole (v.hi -ℤ v.lo) ≤ℚ half_period_width delta
+    (delta : Fraction) → CoversDoubt (1000 * nominal) uncertainty delta → IsNarrowHalfPeriod delta v
 
 -- it runs from the least lo to the least hi of some intervals (or from the greatest lo to the greatest hi)
 pub record IsExtremeInterval (IsExtreme : List ℤ → ℤ → Type 0) (intervals : List Interval) (v : Interval) : Type 0 where
-  pub low : IsExtreme (map (λ h. h.lo) intervals) v.lo
-  pub high : IsExtreme (map (λ h. h.hi) intervals) v.hi
+  pub low : IsExtreme (lows intervals) v.lo
+  pub high : IsExtreme (highs intervals) v.hi
 
 -- these two are the extreme intervals of a list of intervals
 pub record AreExtremeIntervals (intervals : List Interval) (e : Extremes) : Type 0 where
@@ -67,7 +67,7 @@ pub record AreExtremes (half nominal uncertainty : ℕ) (recorded : List Fractio
   pub voltages : List Interval
   pub intervals : List Interval
   pub are_voltages : AllZip (IsVoltageInterval nominal uncertainty) recorded voltages
-  pub are_intervals : AllZip (IsHalfPeriodInterval half) (half_periods cuts voltages) intervals
+  pub are_intervals : AreHalfPeriodIntervals half cuts voltages intervals
   pub least_is : IsExtremeInterval IsLeast intervals e.least
   pub greatest_is : IsExtremeInterval IsGreatest intervals e.greatest
 

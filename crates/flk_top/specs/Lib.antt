@@ -11,6 +11,7 @@ pub mod LevelsDue
 pub mod CheckDue
 pub mod Certified
 pub mod Tables
+pub mod ReportDue
 pub mod Answer
 pub mod Run
 pub mod Headline
@@ -19,4 +20,5 @@ pub mod Status
 pub mod Replies
 pub mod Measuring
 pub mod Blocks
+pub mod Working
 pub mod Checking

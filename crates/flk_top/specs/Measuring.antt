@@ -2,12 +2,11 @@
 use Rattle.std.specs.Prelude.{◌≡◌, ℕ, List, length, map, slice_index_or, pos}
 use Rattle.std.specs.List.{AllZip}
 use Rattle.flk_exact.specs.Fraction.{Fraction}
-use Rattle.flk_exact.specs.Cut.{half_periods}
 use Rattle.flk_num.specs.Rate.{half_at}
 use Rattle.flk_num.specs.declared.interval.Interval.{Interval}
 use Rattle.flk_scale.specs.Voltage.{is_below_zero, IsVoltageInterval}
 use Rattle.flk_scale.specs.Scale.{voltage_of, nominal_of, uncertainty_of}
-use Rattle.flk_half.specs.Cutter.{IsHalfPeriodInterval, Stands}
+use Rattle.flk_half.specs.Intervals.{HasCut}
 use Rattle.flk_dat.specs.Records.{DataRecord}
 use Rattle.flk_scale.specs.Range.{IsWithinRange}
 use Rattle.flk_top.specs.Levels.{AreExtremeIntervalsIfAny}
@@ -28,16 +27,14 @@ abbrev pub half_of : Matched → ℕ
 half_of m = half_at m.lamp m.rate
 
 -- The state stands for these recorded voltages, none of which is over range: the cutter stands for their signs and intervals, whose
--- half-periods are so many and have these extremes.
+-- half-periods have so many intervals with these extremes.
 pub record HasMeasured (m : Measure) (recorded : List Fraction) : Type 0 where
   pub voltages : List Interval
-  pub cuts : List ℕ
   pub intervals : List Interval
   pub are_voltages : AllZip (IsVoltageInterval (nominal_of m.matched.scale) (uncertainty_of m.matched.scale))
       recorded voltages
-  pub stands : Stands m.cutter (half_of m.matched) (map is_below_zero recorded) voltages cuts
-  pub are_intervals : AllZip (IsHalfPeriodInterval (half_of m.matched)) (half_periods cuts voltages) intervals
-  pub count : m.levels.count ≡ length cuts
+  pub cut : HasCut m.cutter (half_of m.matched) (map is_below_zero recorded) voltages intervals
+  pub count : m.levels.count ≡ length intervals
   pub extremes : AreExtremeIntervalsIfAny intervals m.levels.extremes
   pub within : IsWithinRange (nominal_of m.matched.scale) recorded
   pub taken : m.taken ≡ length recorded

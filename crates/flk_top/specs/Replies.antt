@@ -3,8 +3,6 @@ use Rattle.std.specs.Prelude.{◌≡◌, ◌≢◌, ℕ, ◌<◌, List, [], leng
 use Rattle.std.specs.List.{AllZip}
 use Rattle.flk_io.specs.Causes.{Rose}
 use Rattle.flk_io.specs.Told.{ShelfTold}
-use Rattle.flk_num.specs.declared.stop.Stop.{Stop}
-use Rattle.flk_num.specs.declared.stop.Stop.TheVariants as stop
 use Rattle.flk_top.specs.Answer.{IsDueFor, ComesToTurn}
 use Rattle.flk_top.specs.Faults.{read_line}
 use Rattle.flk_top.specs.Outcome.{Outcome}
@@ -17,11 +15,6 @@ use Rattle.flk_top.specs.declared.reply.Status.TheVariants.{ReadFailed}
 -- the outcome that a reply tells
 abbrev pub outcome_of : Reply → Outcome
 outcome_of r = record { status = status_number r.status; text = string_bytes r.text; pieces = [] }
-
--- the reply that stops has the property; want of memory says nothing
-abbrev pub IsRefusal : (Reply → Type 0) → Stop Reply → Type 0
-IsRefusal P (stop.Fault r) = P r
-IsRefusal P stop.OutOfMemory = Unit {0}
 
 -- Unless it tells of a failed read, the reply is due for some contents of the inputs, which are those told where they are told.
 abbrev pub IsExplained : Command → (names : List (List ℕ)) → ShelfTold → Reply → Type 0

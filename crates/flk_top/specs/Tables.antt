@@ -1,19 +1,18 @@
--- What `tables LAMP [RATE]` answers: the coefficients of the lamp's sections at a sampling rate, and the gains that the certificates
--- made for them show.
-use Rattle.std.specs.Prelude.{◌≡◌, ℕ, ◌+◌, List, [], ◌∷◌, ◌++◌, length, ℤ, codes}
+-- What `tables LAMP [RATE]` answers: the coefficients of the lamp's sections at a sampling rate, the gains that the
+-- certificates made for them show, and the bound of the sections behind the first in a row.
+use Rattle.std.specs.Prelude.{◌≡◌, ℕ, ◌+◌, List, [], ◌∷◌, ◌++◌, map, ℤ, codes}
 use Rattle.std.specs.Fmt.{decimal, signed_decimal}
-use Rattle.flk_num.specs.Rate.{sampling_interval}
 use Rattle.flk_num.specs.declared.lamp.Lamp.{Lamp}
 use Rattle.flk_num.specs.declared.rate.Rate.{Rate}
 use Rattle.flk_cert.specs.declared.coefs.Coefs.{Coefs}
-use Rattle.flk_cert.specs.declared.certificate.CertRow.{CertRow}
-use Rattle.flk_cert.specs.declared.gain.Gain.{Gain}
-use Rattle.flk_cert.specs.Gain.{input_of, rounding_of}
-use Rattle.flk_design.specs.Lamp.{constants_of}
-use Rattle.flk_design.specs.Design.{IsDesign}
-use Rattle.flk_top.specs.Certified.{IsCertified, IsFirstRefused}
+use Rattle.flk_cert.specs.Gain.{coefs_of, input_of, rounding_of, gain_numbers}
+use Rattle.flk_section.specs.Filter.{FilterNumbers}
+use Rattle.flk_section.specs.Chain.{filter_numbers}
+use Rattle.flk_top.specs.Certified.{gains_in, IsCertifiedLamp, IsRefusedLamp, lamp_fault_number}
 use Rattle.flk_top.specs.Faults.{lamp_line}
 use Rattle.flk_top.specs.Outcome.{Outcome, completed, refusal}
+use Rattle.flk_top.specs.declared.certified.CertifiedSection.{CertifiedSection}
+use Rattle.flk_top.specs.declared.certified.LampFault.{LampFault}
 
 -- The line of section i. (Appended from the right, as a format is.)
 abbrev pub section_line : (i : ℕ) → Coefs → List ℕ
@@ -29,21 +28,29 @@ gain_line i input rounding rows =
     ++ (codes " " ++ (decimal rows ++ codes "\n")))))))
 
 -- the two lines of section i
-pub record AreSectionLines (i : ℕ) (k : Coefs) (text : List ℕ) : Type 0 where
-  pub rows : List CertRow
-  pub gain : Gain
-  pub certified : IsCertified k rows gain
-  pub text_is : text ≡ section_line i k ++ gain_line i (input_of gain) (rounding_of gain) (length rows)
+abbrev pub section_lines : (i : ℕ) → CertifiedSection → List ℕ
+section_lines i s = section_line i (coefs_of s.gain) ++ gain_line i (input_of s.gain) (rounding_of s.gain) s.rows
 
 -- the lines of these sections, the first of which is section i
-abbrev pub AreLines : (i : ℕ) → List Coefs → (text : List ℕ) → Type 0
-AreLines i [] text = text ≡ []
-AreLines i (k ∷ ks) text =
-    (lines rest : List ℕ) × AreSectionLines i k lines × AreLines (i + 1) ks rest × (text ≡ lines ++ rest)
+abbrev pub lines_from : (i : ℕ) → List CertifiedSection → List ℕ
+lines_from i [] = []
+lines_from i (s ∷ ss) = section_lines i s ++ lines_from (i + 1) ss
+
+-- the line of the sections behind the first in a row
+abbrev pub cascade_line : (input rounding : ℤ) → List ℕ
+cascade_line input rounding =
+    codes "cascade " ++ (signed_decimal input ++ (codes " " ++ (signed_decimal rounding ++ codes "\n")))
+
+-- the bound of the whole cascade for the sections' gains
+abbrev pub bound_of : List CertifiedSection → FilterNumbers
+bound_of ss = filter_numbers (map gain_numbers (gains_in ss))
+
+abbrev pub tables_text : List CertifiedSection → List ℕ
+tables_text ss = lines_from 1 ss ++ cascade_line (bound_of ss).chain_input (bound_of ss).chain_rounding
 
 -- What is due for a lamp at a rate. The premises of the two rows exclude each other.
 pub data IsDueForTables (lamp : Lamp) (rate : Rate) (o : Outcome) : Type 0 where
-  certified : (sections : List Coefs) (text : List ℕ) → IsDesign (sampling_interval rate) (constants_of lamp) sections
-      → AreLines 1 sections text → o ≡ completed text → IsDueForTables lamp rate o
-  refused : (sections : List Coefs) (i : ℕ) → IsDesign (sampling_interval rate) (constants_of lamp) sections
-      → IsFirstRefused sections i → o ≡ refusal (lamp_line (i + 1)) → IsDueForTables lamp rate o
+  certified : (ss : List CertifiedSection) → IsCertifiedLamp lamp rate ss → o ≡ completed (tables_text ss)
+      → IsDueForTables lamp rate o
+  refused : (fault : LampFault) → IsRefusedLamp lamp rate fault → o ≡ refusal (lamp_line (lamp_fault_number fault))
+      → IsDueForTables lamp rate o

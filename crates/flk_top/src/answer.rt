@@ -1,6 +1,6 @@
 //! From the words of a command to its answer.
 
-ghost use Rattle.std.specs.Prelude.{◌≡◌, ◌≢◌, ℕ, List, IfOk};
+ghost use Rattle.std.specs.Prelude.{◌≡◌, ◌≢◌, ℕ, ◌<◌, List, IfOk, true};
 ghost use Rattle.flk_io.specs.Told.{OnlyReads};
 ghost use Rattle.flk_top.specs.Command.{IsInput};
 ghost use Rattle.flk_top.specs.Answer.{IsDue};
@@ -14,12 +14,22 @@ use crate::command::{Command, command_of};
 use crate::faults::usage_reply;
 use crate::levels::levels_reply;
 use crate::reply::Reply;
+use crate::report::report_reply;
 use crate::tables::tables_reply;
 use flk_io::{OutOfMemory, Shelf, Words};
+use flk_phase::Gate;
 use std::alloc::Global;
+use std::thread::Threads;
 
 /// Reads what the words name, and composes the answer.
-pub fn answer<F: Shelf>(alloc: Global, words: &Words, shelf: &mut F) -> Result<Reply, OutOfMemory>
+pub fn answer<R: Threads + Sync, F: Shelf, G: Gate + Sync>(
+    rt: &R,
+    alloc: Global,
+    words: &Words,
+    shelf: &mut F,
+    gate: &G,
+) -> Result<Reply, OutOfMemory>
+    requires gate { (i : ℕ) → i < 6 → G.admits gate.now i ≡ true }
     ensures due { IfOk result (λ r. r.status ≢ statuses.ReadFailed
         → (files : Files) × Agrees (F.told shelf.old) files × IsDue words.now files (outcome_of r)) }
     ensures failed { IfOk result (λ r. r.status ≡ statuses.ReadFailed → (name : List ℕ) × IsInput words.now name) }
@@ -33,5 +43,6 @@ pub fn answer<F: Shelf>(alloc: Global, words: &Words, shelf: &mut F) -> Result<R
         Some(Command::Levels(command)) => levels_reply(alloc, words, command, shelf),
         Some(Command::Check) => check_reply(alloc, words, shelf),
         Some(Command::Tables(lamp, rate)) => tables_reply(alloc, lamp, rate),
+        Some(Command::Report(command)) => report_reply(rt, alloc, words, command, shelf, gate),
     }
 }

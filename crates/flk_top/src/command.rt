@@ -1,9 +1,10 @@
 //! The words of a command, and what they ask for.
 
-ghost use Rattle.std.specs.Prelude.{◌≡◌, ◌≢◌, ℕ, IfSome, IfNone, IsTrue, ◌↔◌};
+ghost use Rattle.std.specs.Prelude.{◌≡◌, ◌≢◌, ℕ, ◌<◌, length, IfSome, IfNone, IsTrue, ◌↔◌};
 ghost use Rattle.flk_num.specs.declared.lamp.Lamp.{Lamp as LampView};
 ghost use Rattle.flk_num.specs.declared.rate.Rate.{Rate as RateView};
-ghost use Rattle.flk_top.specs.Command.{IsNumber, IsNumberIn, IsLevels, IsCheck, lamp_word, AsksRate, IsTables, Asks, IsNoCommand};
+ghost use Rattle.flk_job.specs.Table.{lamp_name};
+ghost use Rattle.flk_top.specs.Command.{IsNumber, IsNumberIn, IsLevels, IsCheck, AsksRate, IsTables, AreReportNames, IsReport, Asks, IsNoCommand};
 ghost use Rattle.flk_top.specs.declared.command.Command.TheVariants as commands;
 
 use flk_io::Words;
@@ -18,6 +19,13 @@ pub struct LevelsCommand {
     pub supply: Supply,
 }
 
+/// What `report` is asked for, beside the names of its three files.
+#[derive(Clone, Copy, Debug)]
+pub struct ReportCommand {
+    /// In how many parts the channels are worked side by side, from 1 to 16. The answer is the same for each.
+    pub workers: u32,
+}
+
 /// What the words ask for.
 #[derive(Clone, Copy, Debug)]
 pub enum Command {
@@ -25,12 +33,20 @@ pub enum Command {
     Check,
     /// The tables of a lamp at a sampling rate.
     Tables(Lamp, Rate),
+    Report(ReportCommand),
 }
 
 /// The name of the configuration, and the name of the data.
 pub const CONFIGURATION_WORD: usize = 1;
 
 pub const DATA_WORD: usize = 2;
+
+/// The names of a report's job, configuration and data.
+pub const JOB_WORD: usize = 1;
+
+pub const REPORT_CONFIGURATION_WORD: usize = 2;
+
+pub const REPORT_DATA_WORD: usize = 3;
 
 // One to ten decimal digits.
 fn number(word: &str) -> Option<u64>
@@ -87,8 +103,8 @@ fn is_check(words: &Words) -> bool
 
 // The lamp of a word.
 fn lamp_of_word(word: &str) -> Option<Lamp>
-    ensures some { IfSome result (λ lamp. word.now ≡ lamp_word lamp) }
-    ensures none { IfNone result ((lamp : LampView) → word.now ≢ lamp_word lamp) }
+    ensures some { IfSome result (λ lamp. word.now ≡ lamp_name lamp) }
+    ensures none { IfNone result ((lamp : LampView) → word.now ≢ lamp_name lamp) }
 {
     match word {
         "230/50" => Some(Lamp::L230),
@@ -132,6 +148,29 @@ fn tables_command(words: &Words) -> Option<(Lamp, Rate)>
     }
 }
 
+// Whether no two of the names of a report's files are the same.
+fn report_names_differ(words: &Words) -> bool
+    requires { 3 < length words.now }
+    ensures { IsTrue result ↔ AreReportNames words.now }
+{
+    let job = words.word(JOB_WORD);
+    let configuration = words.word(REPORT_CONFIGURATION_WORD);
+    let data = words.word(REPORT_DATA_WORD);
+    job != configuration && job != data && configuration != data
+}
+
+// What `report` is asked for, and None exactly where the words don't have its shape.
+fn report_command(words: &Words) -> Option<ReportCommand>
+    ensures some { IfSome result (λ command. Asks words.now (commands.Report command)) }
+    ensures none { IfNone result ((workers : ℕ) → ¬ IsReport words.now workers) }
+{
+    if words.len() != 5 || words.word(0) != "report" || !report_names_differ(words) {
+        return None;
+    }
+    let workers = number_in(words.word(4), 1, 16)?;
+    Some(ReportCommand { workers })
+}
+
 /// What the words ask for, and None exactly where they have no command's shape.
 pub fn command_of(words: &Words) -> Option<Command>
     ensures some { IfSome result (Asks words.now) }
@@ -143,8 +182,11 @@ pub fn command_of(words: &Words) -> Option<Command>
     if is_check(words) {
         return Some(Command::Check);
     }
-    match tables_command(words) {
-        Some((lamp, rate)) => Some(Command::Tables(lamp, rate)),
+    if let Some((lamp, rate)) = tables_command(words) {
+        return Some(Command::Tables(lamp, rate));
+    }
+    match report_command(words) {
+        Some(command) => Some(Command::Report(command)),
         None => None,
     }
 }

@@ -3,13 +3,14 @@
 ghost use Rattle.std.specs.Prelude.{◌≡◌, ◌≢◌, ℕ, List, IfOk, IfErr, string_bytes};
 ghost use Rattle.flk_io.specs.Causes.{TakesAll};
 ghost use Rattle.flk_io.specs.Told.{OnlyReads, ReadsUnder};
+ghost use Rattle.flk_num.specs.Stop.{StopIs};
 ghost use Rattle.flk_cfg.specs.Valid.{IsValid};
 ghost use Rattle.flk_cfg.specs.Kinds.{kind_number};
-ghost use Rattle.flk_cfg.specs.declared.kind.Kind.TheVariants as kinds;
+ghost use Rattle.flk_field.specs.declared.kind.Kind.TheVariants as kinds;
 ghost use Rattle.flk_top.specs.Configuration.{IsConfiguration, IsConfigurationFault};
 ghost use Rattle.flk_top.specs.Faults.{configuration_line};
 ghost use Rattle.flk_top.specs.Outcome.{refusal};
-ghost use Rattle.flk_top.specs.Replies.{outcome_of, IsRefusal, IsHonest};
+ghost use Rattle.flk_top.specs.Replies.{outcome_of, IsHonest};
 ghost use Rattle.flk_top.specs.Told.{MayHold};
 ghost use Rattle.flk_top.specs.declared.reply.Status.TheVariants as statuses;
 
@@ -45,10 +46,10 @@ pub fn read_configuration<F: Shelf>(
     ensures valid { IfOk result IsValid }
     ensures configuration { IfOk result (λ c. (bytes : List ℕ)
         × MayHold ((F.told shelf.old).left name.now) bytes × IsConfiguration bytes c) }
-    ensures refusal { IfErr result (IsRefusal (λ r. r.status ≢ statuses.ReadFailed → (bytes : List ℕ) × (line : List ℕ)
+    ensures refusal { IfErr result (StopIs (λ r. r.status ≢ statuses.ReadFailed → (bytes : List ℕ) × (line : List ℕ)
         × MayHold ((F.told shelf.old).left name.now) bytes × IsConfigurationFault bytes line
         × (outcome_of r ≡ refusal line))) }
-    ensures honest { IfErr result (IsRefusal (IsHonest (F.told shelf.old) (F.told shelf.new))) }
+    ensures honest { IfErr result (StopIs (IsHonest (F.told shelf.old) (F.told shelf.new))) }
     ensures quiet { IfOk result (λ c. (F.told shelf.new).read_faults ≡ (F.told shelf.old).read_faults) }
     ensures only_reads { OnlyReads (F.told shelf.old) (F.told shelf.new) }
     ensures others { ReadsUnder name.now (F.told shelf.old) (F.told shelf.new) }

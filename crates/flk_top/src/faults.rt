@@ -2,13 +2,17 @@
 
 ghost use Rattle.std.specs.Prelude.{◌≡◌, ◌+◌, IfOk, string_bytes};
 ghost use Rattle.flk_text.specs.PlainText.{plain};
-ghost use Rattle.flk_top.specs.Faults.{usage_line, read_line, configuration_line, match_line, data_line, range_line, lamp_line};
+ghost use Rattle.flk_top.specs.Certified.{lamp_fault_number};
+ghost use Rattle.flk_top.specs.Faults.{usage_line, read_line, job_line, configuration_line};
+ghost use Rattle.flk_top.specs.Faults.{match_line, data_line, range_line, lamp_line};
 ghost use Rattle.flk_top.specs.declared.reply.Status.TheVariants as statuses;
 
+use crate::certified::LampFault;
 use crate::reply::{Reply, Status, line};
 use flk_cfg::CfgFault;
 use flk_dat::DatFault;
 use flk_io::OutOfMemory;
+use flk_job::JobFault;
 use flk_scale::MatchFault;
 use flk_text::{DecimalValue, push_decimal};
 use std::alloc::Global;
@@ -25,6 +29,20 @@ pub fn read_reply(alloc: Global) -> Result<Reply, OutOfMemory>
     ensures { IfOk result (λ r. (r.status ≡ statuses.ReadFailed) × (string_bytes r.text ≡ read_line)) }
 {
     line(alloc, Status::ReadFailed, "fault read\n")
+}
+
+/// The reply to the first fault of a job.
+pub fn job_reply(alloc: Global, fault: JobFault) -> Result<Reply, OutOfMemory>
+    ensures { IfOk result (λ r. (r.status ≡ statuses.Refused)
+        × (string_bytes r.text ≡ job_line fault.key fault.kind)) }
+{
+    let key = fault.key;
+    let kind = fault.kind;
+    let text = format!(in alloc; "fault job {key} {kind}\n")?;
+    Ok(Reply {
+        status: Status::Refused,
+        text,
+    })
 }
 
 /// The reply to the first fault of a configuration.
@@ -113,11 +131,13 @@ pub fn range_reply(alloc: Global, place: u32, channel: u32) -> Result<Reply, Out
     })
 }
 
-/// The reply to a lamp of which a section, counted from 1, isn't certified.
-pub fn lamp_reply(alloc: Global, section: usize) -> Result<Reply, OutOfMemory>
-    ensures { IfOk result (λ r. (r.status ≡ statuses.Refused) × (string_bytes r.text ≡ lamp_line section)) }
+/// The reply to a lamp that isn't certified at the rate asked for.
+pub fn lamp_reply(alloc: Global, fault: LampFault) -> Result<Reply, OutOfMemory>
+    ensures { IfOk result (λ r. (r.status ≡ statuses.Refused)
+        × (string_bytes r.text ≡ lamp_line (lamp_fault_number fault))) }
 {
-    let text = format!(in alloc; "fault lamp {section}\n")?;
+    let number = fault.number();
+    let text = format!(in alloc; "fault lamp {number}\n")?;
     Ok(Reply {
         status: Status::Refused,
         text,

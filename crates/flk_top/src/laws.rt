@@ -5,11 +5,15 @@ ghost use Rattle.flk_exact.specs.Fraction.{Fraction};
 ghost use Rattle.flk_exact.specs.Run.{IsAdmittedRun};
 ghost use Rattle.flk_exact.specs.HalfPeriod.{AreHalfPeriodValues};
 ghost use Rattle.flk_exact.specs.Extreme.{IsLeast, IsGreatest};
-ghost use Rattle.flk_top.specs.Answer.{IsDue};
+ghost use Rattle.flk_result.specs.RunQuantities.{RunQuantities};
+ghost use Rattle.flk_top.specs.Answer.{IsDueFor, IsDue};
 ghost use Rattle.flk_top.specs.Command.{Asks, IsInput};
+ghost use Rattle.flk_top.specs.Headline.{ReportedRecording, AreAcceptedForReport, AreOfRuns};
 ghost use Rattle.flk_top.specs.Outcome.{Outcome};
 ghost use Rattle.flk_top.specs.Told.{Files};
 ghost use Rattle.flk_top.specs.declared.command.Command.{Command as CommandView};
+ghost use Rattle.flk_top.specs.declared.command.Command.TheVariants as commands;
+ghost use Rattle.flk_top.specs.declared.command.ReportCommand.{ReportCommand as ReportCommandView};
 
 /// Words ask for one command at most.
 pub fn words_ask_one_command()
@@ -43,4 +47,17 @@ pub fn promise_is_not_empty()
         → (run : List Fraction) × (values : List ℤ) × (least : ℤ) × (greatest : ℤ)
         × IsAdmittedRun (1000 * nominal) uncertainty recorded run
         × AreHalfPeriodValues half cuts run values × IsLeast values least × IsGreatest values greatest }
+{}
+
+/// The promise on a report speaks of some run: whatever files are accepted, each channel has an exact run that its recorded voltages admit,
+/// and that has quantities.
+pub fn report_promise_is_not_empty()
+    ensures { (words : List (List ℕ)) (files : Files) (m : ReportedRecording) → AreAcceptedForReport words files m
+        → (qs : List RunQuantities) × AreOfRuns m qs }
+{}
+
+/// The number of workers changes no answer of a report.
+pub fn workers_change_no_answer()
+    ensures { (a b : ReportCommandView) (contents : List (List ℕ)) (o : Outcome)
+        → IsDueFor (commands.Report a) contents o → IsDueFor (commands.Report b) contents o }
 {}

@@ -1,19 +1,22 @@
 //! The program's top call: from the words of the command line to a status and a text.
 //!
 //! The words are those of a command (`command`), which `answer` calls. Each command is one module, and what it answers is one relation:
-//! `levels` (`specs/LevelsDue`), `check` (`specs/CheckDue`) and `tables` (`specs/Tables`); `specs/Answer` is their table. A command
-//! reads its configuration first (`configuration`) and then its data, in pieces and blocks of records (`blocks`). `levels` finds how
-//! its channel is measured (`matching`), turns each sample into the interval of its voltages by the channel's scale, and keeps the least
+//! `report` (`specs/ReportDue`), `levels` (`specs/LevelsDue`), `check` (`specs/CheckDue`) and `tables` (`specs/Tables`); `specs/Answer` is
+//! their table. `report` reads a job first (`job`). A command reads its configuration (`configuration`) and then its data, in pieces and blocks
+//! of records (`blocks`). `report` has one phase for each channel of the job, and all take each block, in threads (`phases`). `levels` finds
+//! how its channel is measured (`matching`), turns each sample into the interval of its voltages by the channel's scale, and keeps the least
 //! and the greatest value (`measure`) of the half-periods into which `flk_half` cuts them. `tables` reads nothing: it makes the
-//! certificates of a lamp's sections (`certified`). The answer is composed whole (`text`, `faults`, `reply`) before `run` writes it.
+//! certificates of a lamp's sections, and bounds the sections in a row (`certified`). The answer is composed whole (`text`, `faults`,
+//! `reply`) before `run` writes it.
 //!
 //! What is promised of a run, whatever its command is, stands in `specs/Run`: what is written is due for some files that agree with all
-//! that is told of them. That some answer is due, and one alone, and that the promise on levels speaks of some run, are laws (`laws`).
+//! that is told of them. That some answer is due, and one alone, and that the promises on levels and on a report speak of some run, are laws
+//! (`laws`).
 #![tactic(auto)]
 
-ghost use Rattle.std.specs.Prelude.{ℕ, ◌<◌, ◌≤◌, List};
+ghost use Rattle.std.specs.Prelude.{◌≡◌, ℕ, ◌<◌, ◌≤◌, List, true};
 ghost use Rattle.std.specs.Io.KnownBytes.{Appends};
-ghost use Rattle.flk_top.specs.Headline.{MeasuredRecording, AreAccepted, TellsLevels};
+ghost use Rattle.flk_top.specs.Headline.{MeasuredRecording, AreAccepted, TellsLevels, ReportedRecording, AreAcceptedForReport, TellsReport};
 ghost use Rattle.flk_top.specs.Run.{DoneIsDue, CutIsDue, IsCounted, IsConfined, ReadsInTurn};
 ghost use Rattle.flk_top.specs.Told.{TellsInputs};
 
@@ -26,11 +29,16 @@ mod check;
 mod command;
 mod configuration;
 mod faults;
+mod job;
 mod laws;
 mod levels;
 mod matching;
 mod measure;
+mod phases;
 mod reply;
+mod report;
+#[cfg(test)]
+mod report_tests;
 mod tables;
 #[cfg(test)]
 mod tests;
@@ -38,8 +46,10 @@ mod text;
 
 use crate::answer::answer;
 use flk_io::{Shelf, Sink, Words, write_all};
+pub use flk_phase::Gate;
 pub use laws::{
-    an_answer_is_due, answer_is_one, inputs_decide, promise_is_not_empty, words_ask_one_command,
+    an_answer_is_due, answer_is_one, inputs_decide, promise_is_not_empty,
+    report_promise_is_not_empty, words_ask_one_command, workers_change_no_answer,
 };
 pub use measure::{Extremes, Levels};
 use std::alloc::Global;
@@ -51,18 +61,13 @@ pub const WRITE_FAILED: u8 = 5;
 /// The status where no memory was found.
 pub const OUT_OF_MEMORY: u8 = 6;
 
-/// What a caller does as a phase is entered. (No command enters one so far.)
-pub trait Gate {
-    /// Called once for each phase, as it is entered; `phase` counts from 0. A second call with the same number tells of no other phase:
-    /// no phase is entered twice in one run.
-    fn enter(&self, phase: usize);
-}
-
 /// Runs the command that `words` name (those after the program's name), and answers the status.
 ///
 /// It reads the command's files from `shelf`, composes the whole text, and then writes it to `sink`. The status is 0 where the text
-/// is that of the command, 2 where it is one fault line, 4 where a read failed (the line `fault read`), 5 where a write failed, and
-/// 6 where no memory was found, which writes nothing. `rt` and `gate` are for the phases of a report; no other command uses them.
+/// is that of the command, or a report whose verdict is pass; 1 or 3 where it is a report whose verdict is fail or undecided; 2 where it is one
+/// fault line, 4 where a read failed (the line `fault read`), 5 where a write failed, and 6 where no memory was found, which writes nothing.
+/// A report works its channels in threads of `rt`, and calls `gate` as it begins to work a channel's samples of a block, with the channel's
+/// place in the job, from 0. No other command uses the two.
 pub fn run<R: Threads + Sync, F: Shelf, K: Sink, G: Gate + Sync>(
     rt: &R,
     alloc: Global,
@@ -71,6 +76,7 @@ pub fn run<R: Threads + Sync, F: Shelf, K: Sink, G: Gate + Sync>(
     sink: &mut K,
     gate: &G,
 ) -> u8
+    requires gate { (i : ℕ) → i < 6 → G.admits gate.now i ≡ true }
     ensures known { result ≤ 6 }
 
     // Below 4: what is due for some files that agree with all that is told is done whole.
@@ -93,10 +99,14 @@ pub fn run<R: Threads + Sync, F: Shelf, K: Sink, G: Gate + Sync>(
         → (m : MeasuredRecording) → AreAccepted words.now files m
         → (text : List ℕ) × TellsLevels m result text
         × Appends (K.told sink.old).written (K.told sink.new).written text }
+
+    // Files that are accepted for a report: it is told, with intervals that hold every exact run of all channels, and verdicts on every one.
+    ensures report { result < 4 → (files : List ℕ → List ℕ) → TellsInputs words.now (F.told shelf.old) files
+        → (m : ReportedRecording) → AreAcceptedForReport words.now files m
+        → (text : List ℕ) × TellsReport m result text
+        × Appends (K.told sink.old).written (K.told sink.new).written text }
 {
-    let _ = rt;
-    let _ = gate;
-    match answer(alloc, words, shelf) {
+    match answer(rt, alloc, words, shelf, gate) {
         Err(_) => OUT_OF_MEMORY,
         Ok(reply) => match write_all(sink, reply.text.as_bytes()) {
             Ok(()) => reply.status.number(),

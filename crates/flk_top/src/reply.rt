@@ -9,8 +9,12 @@ use std::alloc::Global;
 /// How a command ends whose whole text is composed.
 #[derive(Clone, Copy, Debug, PartialEq, Eq)]
 pub enum Status {
-    /// The text is that of the command.
+    /// The text is that of the command; of a report whose verdict is pass, where the command is one.
     Done,
+    /// The text is a report whose verdict is fail.
+    Failed,
+    /// The text is a report whose verdict is undecided.
+    Undecided,
     /// The words, or a file, are refused: the text is one fault line.
     Refused,
     /// A read failed: the text is the line `fault read`.
@@ -18,12 +22,14 @@ pub enum Status {
 }
 
 impl Status {
-    /// The number with which the program ends: 0, 2 or 4.
+    /// The number with which the program ends: 0 to 4.
     pub fn number(self) -> u8
         ensures { result ≡ status_number self }
     {
         match self {
             Status::Done => 0,
+            Status::Failed => 1,
+            Status::Undecided => 3,
             Status::Refused => 2,
             Status::ReadFailed => 4,
         }

@@ -1,18 +1,20 @@
-//! The command `tables`: the coefficients of a lamp's sections, and their gains.
+//! The command `tables`: the coefficients of a lamp's sections, their gains, and the bound of the sections behind the first in a row.
 
-ghost use Rattle.std.specs.Prelude.{◌≡◌, IfOk, IfSome, IfNone, string_bytes};
+ghost use Rattle.std.specs.Prelude.{◌≡◌, IfOk, string_bytes};
 ghost use Rattle.flk_cert.specs.Gain.{input_of, rounding_of};
-ghost use Rattle.flk_top.specs.Certified.{IsRefused};
+ghost use Rattle.flk_section.specs.Whole.{numbers_of, IsWholeOf};
+ghost use Rattle.flk_top.specs.Certified.{gains_in};
 ghost use Rattle.flk_top.specs.Replies.{outcome_of};
-ghost use Rattle.flk_top.specs.Tables.{section_line, gain_line, AreSectionLines, IsDueForTables};
+ghost use Rattle.flk_top.specs.Tables.{section_line, gain_line, section_lines as lines_of_section, cascade_line};
+ghost use Rattle.flk_top.specs.Tables.{tables_text, IsDueForTables};
 
-use crate::certified::{Certified, certify};
+use crate::certified::{CertifiedLamp, CertifiedSection, certify_lamp};
 use crate::faults::lamp_reply;
 use crate::reply::{Reply, Status};
 use flk_cert::Coefs;
-use flk_design::design_at;
 use flk_io::OutOfMemory;
-use flk_num::{Lamp, Rate};
+use flk_num::{Lamp, Rate, Stop};
+use flk_section::Whole;
 use std::alloc::Global;
 
 // The line of section i, counted from 1.
@@ -28,44 +30,66 @@ fn coefs_line(alloc: Global, i: usize, k: &Coefs) -> Result<String, OutOfMemory>
 }
 
 // The line of its gain, and of how many rows its certificate has.
-fn certified_line(alloc: Global, i: usize, certified: Certified) -> Result<String, OutOfMemory>
+fn certified_line(
+    alloc: Global,
+    i: usize,
+    section: &CertifiedSection,
+) -> Result<String, OutOfMemory>
     ensures { IfOk result (λ text. string_bytes text
-        ≡ gain_line i (input_of certified.gain) (rounding_of certified.gain) certified.rows) }
+        ≡ gain_line i (input_of section.now.gain) (rounding_of section.now.gain) section.now.rows) }
 {
-    let input = certified.gain.input();
-    let rounding = certified.gain.rounding();
-    let rows = certified.rows;
+    let input = section.gain.input();
+    let rounding = section.gain.rounding();
+    let rows = section.rows;
     format!(in alloc; "gain {i} {input} {rounding} {rows}\n")
 }
 
-// The two lines of section i; none where the certificate that is made for it is refused.
-fn section_lines(alloc: Global, i: usize, k: &Coefs) -> Result<Option<String>, OutOfMemory>
-    ensures some { IfOk result (λ o. IfSome o (λ text. AreSectionLines i k.now (string_bytes text))) }
-    ensures none { IfOk result (λ o. IfNone o (IsRefused k.now)) }
+// The two lines of section i.
+fn section_lines(alloc: Global, i: usize, section: &CertifiedSection) -> Result<String, OutOfMemory>
+    ensures { IfOk result (λ text. string_bytes text ≡ lines_of_section i section.now) }
 {
-    let Some(certified) = certify(alloc, k)? else {
-        return Ok(None);
-    };
-    let mut text = coefs_line(alloc, i, k)?;
-    text.push_str(certified_line(alloc, i, certified)?.as_str())?;
-    Ok(Some(text))
+    let mut text = coefs_line(alloc, i, &section.gain.coefs())?;
+    text.push_str(certified_line(alloc, i, section)?.as_str())?;
+    Ok(text)
 }
 
-/// The answer to `tables`: two lines for each section of the lamp's filter at the rate, or the first section whose certificate is
-/// refused.
+// The line of the sections behind the first in a row.
+fn whole_line(alloc: Global, whole: &Whole) -> Result<String, OutOfMemory>
+    ensures { IfOk result (λ text. string_bytes text
+        ≡ cascade_line (numbers_of whole.now).chain_input (numbers_of whole.now).chain_rounding) }
+{
+    let input = whole.input();
+    let rounding = whole.rounding();
+    format!(in alloc; "cascade {input} {rounding}\n")
+}
+
+// All lines of a lamp.
+fn lamp_lines(alloc: Global, certified: &CertifiedLamp) -> Result<String, OutOfMemory>
+    requires { IsWholeOf (gains_in certified.now.sections.items) certified.now.whole }
+    ensures { IfOk result (λ text. string_bytes text ≡ tables_text certified.now.sections.items) }
+{
+    let mut text = String::new(alloc);
+    for (i, section) in certified.sections.as_slice().iter().enumerate() {
+        text.push_str(section_lines(alloc, i + 1, section)?.as_str())?;
+    }
+    text.push_str(whole_line(alloc, &certified.whole)?.as_str())?;
+    Ok(text)
+}
+
+/// The answer to `tables`: two lines for each section of the lamp's filter at the rate, and one for the sections behind the first in
+/// a row; or why the lamp isn't certified.
 pub fn tables_reply(alloc: Global, lamp: Lamp, rate: Rate) -> Result<Reply, OutOfMemory>
     ensures { IfOk result (λ r. IsDueForTables lamp rate (outcome_of r)) }
 {
-    let sections = design_at(lamp, rate);
-    let mut text = String::new(alloc);
-    for (i, k) in sections.iter().enumerate() {
-        match section_lines(alloc, i + 1, k)? {
-            Some(lines) => text.push_str(lines.as_str())?,
-            None => return lamp_reply(alloc, i + 1),
+    match certify_lamp(alloc, lamp, rate) {
+        Ok(certified) => {
+            let text = lamp_lines(alloc, &certified)?;
+            Ok(Reply {
+                status: Status::Done,
+                text,
+            })
         }
+        Err(Stop::Fault(fault)) => lamp_reply(alloc, fault),
+        Err(Stop::OutOfMemory) => Err(OutOfMemory),
     }
-    Ok(Reply {
-        status: Status::Done,
-        text,
-    })
 }

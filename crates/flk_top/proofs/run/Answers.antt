@@ -1,7 +1,7 @@
-use Rattle.std.proofs.Common.{rules, ◌≡◌, string_bytes}
+use Rattle.std.proofs.Common.{rules, string_bytes}
 use Rattle.std.specs.Io.KnownBytes.{Appends}
 use Rattle.flk_io.specs.Causes.{Rose, AddsFront}
-use Rattle.flk_top.proofs.RunLemmas.{done_due, done_cut, done_levels, written_cut, memory_cut}
+use Rattle.flk_top.proofs.RunLemmas.{done_due, done_cut, done_levels, done_report, written_cut, memory_cut}
 use Rattle.flk_top.proofs.run.Goals as goal
 
 -- ---- the text is written whole
@@ -29,6 +29,16 @@ returns-in-Ok-write_all-clause-levels g c =
     let new = g.F.Shelf.told c.answer.new.shelf in
     let text : Appends was.written is.written (string_bytes c.in-Ok.reply.text) = search rules in
     done_levels c.args.words.now c.number.result old new was is
+    (done_due c.args.words.now c.number.result old new was is c.in-Ok.reply c.number.ensures c.answer.ensures.only_reads c.in-Ok.ensures.due text)
+
+pub returns-in-Ok-write_all-clause-report : goal.returns-in-Ok-write_all-clause-report
+returns-in-Ok-write_all-clause-report g c =
+    let was = g.K.Sink.told c.args.sink.now in
+    let is = g.K.Sink.told c.write_all.new.sink in
+    let old = g.F.Shelf.told c.args.shelf.now in
+    let new = g.F.Shelf.told c.answer.new.shelf in
+    let text : Appends was.written is.written (string_bytes c.in-Ok.reply.text) = search rules in
+    done_report c.args.words.now c.number.result old new was is
     (done_due c.args.words.now c.number.result old new was is c.in-Ok.reply c.number.ensures c.answer.ensures.only_reads c.in-Ok.ensures.due text)
 
 -- ---- a write failed

@@ -1,8 +1,6 @@
-use Rattle.std.proofs.Common.{rules, refl, inl, ◌≡◌, string_bytes, IfOk}
-use Rattle.flk_top.specs.Answer.{IsDueFor}
-use Rattle.flk_top.specs.Command.{Asks, inputs_of, configuration_name, data_name, IsNoCommand}
-use Rattle.flk_top.specs.Faults.{usage_line}
-use Rattle.flk_top.specs.declared.command.Command.TheVariants.{Levels, Check, Tables}
+use Rattle.std.proofs.Common.{rules, refl}
+use Rattle.flk_top.specs.Command.{Asks}
+use Rattle.flk_top.specs.declared.command.Command.TheVariants.{Levels, Check, Tables, Report}
 use Rattle.flk_top.proofs.RunLemmas.{usage_replies, tables_replies, explained_all, input_read, confined_reads, turns_await}
 use Rattle.flk_top.proofs.answer.answer.Goals as goal
 
@@ -59,3 +57,25 @@ pub returns-in-Some-Tables-clause-due : goal.returns-in-Some-Tables-clause-due
 returns-in-Some-Tables-clause-due g c =
     let asks : Asks c.args.words.now (Tables c.in-Some-Tables.lamp c.in-Some-Tables.rate) = search rules in
     tables_replies c.args.words.now (g.F.Shelf.told c.args.shelf.now) c.in-Some-Tables.lamp c.in-Some-Tables.rate c.tables_reply.result asks c.tables_reply.ensures
+
+-- ---- report
+
+pub returns-in-Some-Report-clause-due : goal.returns-in-Some-Report-clause-due
+returns-in-Some-Report-clause-due g c =
+    let asks : Asks c.args.words.now (Report c.in-Some-Report.command) = search rules in
+    explained_all c.args.words.now (g.F.Shelf.told c.args.shelf.now) (Report c.in-Some-Report.command) c.report_reply.result asks c.report_reply.ensures.due
+
+pub returns-in-Some-Report-clause-failed : goal.returns-in-Some-Report-clause-failed
+returns-in-Some-Report-clause-failed g c =
+    let asks : Asks c.args.words.now (Report c.in-Some-Report.command) = search rules in
+    input_read c.args.words.now (Report c.in-Some-Report.command) _ _ c.report_reply.result asks refl
+
+pub returns-in-Some-Report-clause-names : goal.returns-in-Some-Report-clause-names
+returns-in-Some-Report-clause-names g c =
+    let asks : Asks c.args.words.now (Report c.in-Some-Report.command) = search rules in
+    confined_reads c.args.words.now (g.F.Shelf.told c.args.shelf.now) (g.F.Shelf.told c.report_reply.new.shelf) (Report c.in-Some-Report.command) _ _ asks refl c.report_reply.ensures.only_reads c.report_reply.ensures.names
+
+pub returns-in-Some-Report-clause-turn : goal.returns-in-Some-Report-clause-turn
+returns-in-Some-Report-clause-turn g c =
+    let asks : Asks c.args.words.now (Report c.in-Some-Report.command) = search rules in
+    turns_await c.args.words.now (g.F.Shelf.told c.args.shelf.now) (g.F.Shelf.told c.report_reply.new.shelf) (Report c.in-Some-Report.command) asks c.report_reply.ensures.turn

@@ -1,5 +1,6 @@
 use Rattle.flk_io.proofs.Told.{OnlyReads-trans}
-use Rattle.flk_top.proofs.Replies.{check_unread, check_explained, check_in_turn, two_only, honest_on}
+use Rattle.flk_top.proofs.HonestReplies.{honest_on}
+use Rattle.flk_top.proofs.Replies.{check_unread, check_explained, check_in_turn, two_only}
 use Rattle.flk_top.proofs.check.check_reply.Goals as goal
 
 -- ---- the configuration is read

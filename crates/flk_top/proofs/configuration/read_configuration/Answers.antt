@@ -3,7 +3,7 @@ use Rattle.flk_io.specs.Causes.{TakesAll, TakesFront}
 use Rattle.flk_num.specs.declared.stop.Stop.TheVariants.{Fault}
 use Rattle.flk_cfg.specs.File.{IsConfig, IsFileAnswer}
 use Rattle.flk_cfg.specs.Kinds.{kind_number}
-use Rattle.flk_cfg.specs.declared.kind.Kind.TheVariants.{Length}
+use Rattle.flk_field.specs.declared.kind.Kind.TheVariants.{Length}
 use Rattle.flk_cfg.proofs.ReadLaws.{read_is_valid}
 use Rattle.flk_top.specs.Configuration.{configuration_limit, IsConfiguration}
 use Rattle.flk_top.specs.Faults.{configuration_line}

@@ -1,7 +1,8 @@
 use Rattle.flk_io.proofs.Told.{OnlyReads-trans}
 use Rattle.flk_top.specs.Faults.{match_line}
 use Rattle.flk_top.specs.declared.command.Command.TheVariants.{Levels}
-use Rattle.flk_top.proofs.Replies.{levels_unread, levels_unmatched, levels_explained, levels_in_turn, data_await, data_untouched, one_only, two_only, refused_honest, honest_on}
+use Rattle.flk_top.proofs.HonestReplies.{refused_honest, honest_on}
+use Rattle.flk_top.proofs.Replies.{levels_unread, levels_unmatched, levels_explained, levels_in_turn, data_await, data_untouched, one_only, two_only}
 use Rattle.flk_top.proofs.levels.levels_reply.Goals as goal
 
 -- ---- the channel can be measured

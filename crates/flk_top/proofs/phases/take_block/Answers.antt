@@ -1,0 +1,6 @@
+use Rattle.flk_top.proofs.PhasesLemmas.{all_take}
+use Rattle.flk_top.proofs.phases.take_block.Goals as goal
+
+pub returns : goal.returns
+returns g c =
+    all_take c.args.phases.now c.reserve_all.new.phases c.work.new.phases c.args.block.now c.rows-2.result c.in_ok-reserve_all.ensures c.work.ensures.count c.work.ensures.takes
