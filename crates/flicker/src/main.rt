@@ -1,8 +1,12 @@
 //! The program: the words of the command line, files and standard output, handed to the top call.
 #![tactic(auto)]
 
+ghost use Rattle.std.specs.Prelude.{◌≡◌, ℕ, ◌<◌, List, true};
 ghost use Rattle.std.specs.Process.{exit_status};
+ghost use Rattle.std.specs.Io.KnownBytes.{Appends};
+ghost use Rattle.flk_top.specs.Headline.{MeasuredRecording, AreAccepted, TellsLevels, ReportedRecording, AreAcceptedForReport, TellsReport};
 ghost use Rattle.flk_top.specs.Run.{IsRun};
+ghost use Rattle.flk_top.specs.Told.{TellsInputs};
 
 use flk_io::{FileShelf, Shelf, Sink, StdSink, Words};
 use flk_top::{Gate, OUT_OF_MEMORY, run};
@@ -15,6 +19,10 @@ use std::{env, io};
 struct Open;
 
 impl Gate for Open {
+    ghost use Rattle.std.specs.Prelude.{true};
+
+    ghost admits = { λ gate phase. true };
+
     fn enter(&self, phase: usize) {
         let _ = phase;
     }
@@ -39,7 +47,17 @@ fn exit_code_of<R: Threads + Sync, F: Shelf, K: Sink, G: Gate + Sync>(
     sink: &mut K,
     gate: &G,
 ) -> ExitCode
-    ensures { IsRun words.now (exit_status result) (F.told shelf.old) (F.told shelf.new) (K.told sink.old) (K.told sink.new) }
+    requires { (i : ℕ) → i < 6 → G.admits gate.now i ≡ true }
+    ensures run { IsRun words.now (exit_status result)
+        (F.told shelf.old) (F.told shelf.new) (K.told sink.old) (K.told sink.new) }
+    ensures levels { exit_status result < 4 → (files : List ℕ → List ℕ) → TellsInputs words.now (F.told shelf.old) files
+        → (m : MeasuredRecording) → AreAccepted words.now files m
+        → (text : List ℕ) × TellsLevels m (exit_status result) text
+        × Appends (K.told sink.old).written (K.told sink.new).written text }
+    ensures report { exit_status result < 4 → (files : List ℕ → List ℕ) → TellsInputs words.now (F.told shelf.old) files
+        → (m : ReportedRecording) → AreAcceptedForReport words.now files m
+        → (text : List ℕ) × TellsReport m (exit_status result) text
+        × Appends (K.told sink.old).written (K.told sink.new).written text }
 {
     let status = run(rt, alloc, words, shelf, sink, gate);
     ExitCode::from(status)
