@@ -9,7 +9,8 @@ Builds a small program over each crate in a temporary folder by `rt run`, which 
 of about 5e-11 of nominal, the cascade of the lamp 230/50 takes points of up to 4 times nominal squared, the smoothing at 2400 samples a second
 points of up to a half, and the severity whole intervals of 1,440,000 levels of up to 1: as many as the samples make, at least one. Runs both
 programs RUNS times (5) in turn, compares what they print, and prints for each the least processor time, and the ratio. With names (`front`,
-`cascade`, `smooth`, `severity`) only those."""
+`cascade`, `smooth`, `severity`) only those. Before that it times `whole_of`, which
+makes the bound of a whole cascade, for both lamps at both rates."""
 import sys
 import tempfile
 
@@ -48,7 +49,7 @@ use flk_cert::{Coefs, Gain, check, make};
 use flk_design::design;
 use flk_front::Point;
 use flk_num::Lamp;
-use flk_section::{Cascade, fits};
+use flk_section::{Cascade, Whole, fits, whole_of};
 use std::alloc::Global;
 use std::io;
 
@@ -68,6 +69,10 @@ fn gains_of(alloc: Global) -> Option<[Gain; 7]> {
     Some(gains)
 }
 
+fn bound_of(gains: &[Gain; 7]) -> Option<Whole> {
+    if fits(gains) { whole_of(gains) } else { None }
+}
+
 fn step(cascade: &mut Cascade, state: u32) -> u64 {
     let p = cascade.step(Point { mid: i128::from(state) * 262_144, radius: i128::from(state >> 22) });
     (p.mid.unsigned_abs() as u64) ^ (p.radius as u64)
@@ -77,10 +82,10 @@ fn main(rt: HostRuntime) -> io::Result<()> {
     let Some(gains) = gains_of(rt.alloc()) else {
         return Ok(());
     };
-    if !fits(&gains) {
+    let Some(whole) = bound_of(&gains) else {
         return Ok(());
-    }
-    let mut cascade = Cascade::new(gains);
+    };
+    let mut cascade = Cascade::new(whole);
     let mut state: u32 = 1;
     let mut sum: u64 = 0;
     for _ in 0..%du32 {
@@ -157,6 +162,62 @@ fn main(rt: HostRuntime) -> io::Result<()> {
 }
 """
 
+WHOLE = """//! Makes the bound of a lamp's whole cascade many times, for both lamps at both rates, and prints a checksum.
+#![tactic(auto)]
+
+use flk_cert::{Coefs, Gain, check, make};
+use flk_design::design_at;
+use flk_num::{Lamp, Rate};
+use flk_section::{fits, whole_of};
+use std::alloc::Global;
+use std::io;
+
+fn gain_of(alloc: Global, k: &Coefs) -> Option<Gain> {
+    match make(alloc, k) {
+        Ok(cert) => check(k, &cert).ok(),
+        Err(_) => None,
+    }
+}
+
+fn gains_of(alloc: Global, lamp: Lamp, rate: Rate) -> Option<[Gain; 7]> {
+    let sections = design_at(lamp, rate);
+    let mut gains = [gain_of(alloc, &sections[0])?; 7];
+    for i in 1..7 {
+        gains[i] = gain_of(alloc, &sections[i])?;
+    }
+    Some(gains)
+}
+
+fn input_of(gains: &[Gain; 7]) -> u64 {
+    if !fits(gains) {
+        return 0;
+    }
+    match whole_of(gains) {
+        Some(whole) => whole.input() as u64,
+        None => 0,
+    }
+}
+
+fn main(rt: HostRuntime) -> io::Result<()> {
+    let mut sum: u64 = 0;
+    for lamp in [Lamp::L230, Lamp::L120] {
+        for rate in [Rate::R2400, Rate::R4800] {
+            let Some(gains) = gains_of(rt.alloc(), lamp, rate) else {
+                return Ok(());
+            };
+            for _ in 0..%du32 {
+                sum = sum.wrapping_mul(31).wrapping_add(input_of(&gains));
+            }
+        }
+    }
+    println!(rt; "{sum}")?;
+    Ok(())
+}
+"""
+
+# How often `whole_of` is called for each lamp and rate.
+CALLS = 25
+
 # The crate that is timed, the program over it with the crates that it uses, the plain program, and the samples that it takes at a time.
 TIMED = [
     ("flk_front", FRONT, ["flk_num", "flk_front"], "front", 1),
@@ -184,6 +245,10 @@ def compared(crate, both, samples, runs):
 def main():
     samples = int(sys.argv[1]) if len(sys.argv) > 1 else 10_000_000
     runs = int(sys.argv[2]) if len(sys.argv) > 2 else 5
+    with tempfile.TemporaryDirectory() as folder:
+        program = programs.over_crates(folder, "bench_whole", ["flk_num", "flk_cert", "flk_design", "flk_section"], {"src/main.rt": WHOLE % CALLS})
+        seconds = min(programs.run([program])[0] for _ in range(runs))
+        print("whole_of     %7.2f ms a call, with its share of the certificates" % (1e3 * seconds / (4 * CALLS)))
     print("%d samples, best of %d runs" % (samples, runs))
     for crate, text, uses, plain, at_a_time in TIMED:
         if sys.argv[3:] and plain not in sys.argv[3:]:

@@ -204,10 +204,24 @@ pub struct Config {
     pub analog: Vec<([Vec<u8>; 4], [i128; 7], bool)>,
     pub digital: Vec<([Vec<u8>; 3], bool)>,
     pub lf: i128,
+    pub rate: u32,
     pub endsamp: i64,
     pub stamps: Vec<((u32, u32, u32), (u32, u32, u32, u32))>,
     pub binary: bool,
     pub timemult: i128,
+}
+
+impl Config {
+    /// The line frequency where it is 50 or 60 hertz.
+    pub fn hertz(&self) -> Option<u32> {
+        [50, 60].into_iter().find(|hertz| self.lf == i128::from(*hertz) * 10i128.pow(24))
+    }
+
+    /// The line frequency as a plain decimal.
+    pub fn frequency(&self) -> String {
+        let text = format!("{}.{:024}", self.lf / 10i128.pow(24), self.lf % 10i128.pow(24));
+        text.trim_end_matches('0').trim_end_matches('.').to_string()
+    }
 }
 
 fn read(lines: &mut Lines) -> Judged<Config> {
@@ -268,7 +282,8 @@ fn read(lines: &mut Lines) -> Judged<Config> {
     lines.take(2, false)?;
     match decimal(lines.fields[0]) {
         Text::Syntax => return Err((1, NUMBER)),
-        Text::Value(samp) if samp == 2400 * 10i128.pow(24) => {}
+        Text::Value(samp) if samp == 2400 * 10i128.pow(24) => config.rate = 2400,
+        Text::Value(samp) if samp == 4800 * 10i128.pow(24) => config.rate = 4800,
         _ => return Err((1, RATES)),
     }
     config.endsamp = judge(whole(lines.fields[1], 1, i64::from(u32::MAX)), 2)?;

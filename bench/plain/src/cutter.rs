@@ -2,16 +2,13 @@
 
 const FIVE_TO_18: u128 = 3_814_697_265_625;
 
-/// The half-periods of so many samples in half a nominal period, so far.
+/// The half-periods of so many samples in half a nominal period.
 pub struct Cutter {
     half: usize,
     since: usize,
     negative: bool,
     least: u128,
     greatest: u128,
-    pub count: u64,
-    /// The least value's interval, and the greatest one's.
-    pub extremes: Option<[u64; 4]>,
 }
 
 /// The least and the greatest square of a number from `lo` to `hi`.
@@ -29,7 +26,7 @@ pub fn squares(lo: i64, hi: i64) -> (u128, u128) {
 
 impl Cutter {
     pub fn new(half: usize) -> Cutter {
-        Cutter { half, since: 0, negative: false, least: 0, greatest: 0, count: 0, extremes: None }
+        Cutter { half, since: 0, negative: false, least: 0, greatest: 0 }
     }
 
     fn value(&self, sum: u128) -> u64 {
@@ -42,19 +39,19 @@ impl Cutter {
         }
     }
 
-    /// Takes the next sample: whether its voltage is negative, and the voltage's interval in units of 2^-48 of nominal.
-    pub fn push(&mut self, negative: bool, lo: i64, hi: i64) {
+    /// Takes the next sample: whether its voltage is negative, and the voltage's interval in units of 2^-48 of nominal. Answers the
+    /// interval of the half-period that ended before it.
+    pub fn push(&mut self, negative: bool, lo: i64, hi: i64) -> Option<(u64, u64)> {
+        let mut ended = None;
         let square = squares(lo, hi);
         if self.since == 2 * self.half || (self.half <= 2 * self.since && negative != self.negative) {
-            let (a, b) = (self.value(self.least), self.value(self.greatest));
-            let e = self.extremes.unwrap_or([a, b, a, b]);
-            self.extremes = Some([e[0].min(a), e[1].min(b), e[2].max(a), e[3].max(b)]);
-            self.count += 1;
+            ended = Some((self.value(self.least), self.value(self.greatest)));
             (self.since, self.least, self.greatest) = (0, 0, 0);
         }
         self.since += 1;
         self.negative = negative;
         self.least += square.0;
         self.greatest += square.1;
+        ended
     }
 }

@@ -179,10 +179,10 @@ fn read_ascii(file: &mut BufReader<File>, reader: &mut Reader, mut take: impl Fn
     Ok(())
 }
 
-/// Reads the data of a configuration, and hands each record over. A missing value is a fault in this channel, from 0.
-pub fn read_data(name: &str, config: &Config, selected: Option<usize>, take: impl FnMut(Record) -> bool) -> Result<(), Stop> {
+/// Reads the data of a configuration, and hands each record over. A missing value is a fault in these channels, from 0.
+pub fn read_data(name: &str, config: &Config, selected: &[usize], take: impl FnMut(Record) -> bool) -> Result<(), Stop> {
     let channels = config.analog.len();
-    let selected: Vec<bool> = (0..channels).map(|i| selected == Some(i)).collect();
+    let selected: Vec<bool> = (0..channels).map(|i| selected.contains(&i)).collect();
     let mut reader = Reader {
         records: config.endsamp as u32,
         selected: &selected,

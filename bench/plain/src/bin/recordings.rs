@@ -7,7 +7,8 @@
 use plain::configuration::{read_configuration, Config};
 use plain::cutter::Cutter;
 use plain::data::{read_data, Stop};
-use plain::scale::{Scale, Unmatched};
+use plain::scale::Scale;
+use plain::text::billionths;
 use std::{env, fs, process};
 
 fn end(status: i32, line: String) -> ! {
@@ -23,39 +24,27 @@ fn end_at(stop: Stop, channel: &str) -> ! {
     }
 }
 
-fn billionths(n: u64) -> String {
-    format!("{}.{:09}", n / 1_000_000_000, n % 1_000_000_000)
-}
-
-fn hertz(config: &Config) -> Result<usize, Unmatched> {
-    let lf = config.lf / 10i128.pow(12);
-    match (config.lf % 10i128.pow(24) == 0).then_some(lf / 10i128.pow(12)) {
-        Some(50) => Ok(24),
-        Some(60) => Ok(20),
-        _ => {
-            let rest = format!("{:024}", config.lf % 10i128.pow(24));
-            let text = format!("{}.{}", config.lf / 10i128.pow(24), rest);
-            Err((4, "0".to_string(), text.trim_end_matches('0').trim_end_matches('.').to_string()))
-        }
-    }
-}
-
 fn levels(config: &Config, data: &str, words: &[String]) {
     let channel: usize = words[0].parse().unwrap();
     let matched = Scale::new(config, channel.wrapping_sub(1), words[1].parse().unwrap(), words[2].parse().unwrap())
-        .and_then(|scale| Ok((scale, hertz(config)?)));
-    let (scale, half) = matched.unwrap_or_else(|(kind, p, q)| end(2, format!("fault match {kind} {p} {q}")));
-    let mut cutter = Cutter::new(half);
-    let read = read_data(data, config, Some(channel - 1), |record| match scale.voltage(record.analog[channel - 1]) {
+        .and_then(|scale| Ok((scale, config.hertz().ok_or_else(|| (4, "0".to_string(), config.frequency()))?)));
+    let (scale, hertz) = matched.unwrap_or_else(|(kind, p, q)| end(2, format!("fault match {kind} {p} {q}")));
+    let mut cutter = Cutter::new((config.rate / (2 * hertz)) as usize);
+    let (mut count, mut extremes) = (0, None);
+    let read = read_data(data, config, &[channel - 1], |record| match scale.voltage(record.analog[channel - 1]) {
         Some((negative, lo, hi)) => {
-            cutter.push(negative, lo, hi);
+            if let Some((a, b)) = cutter.push(negative, lo, hi) {
+                let e: [u64; 4] = extremes.unwrap_or([a, b, a, b]);
+                extremes = Some([e[0].min(a), e[1].min(b), e[2].max(a), e[3].max(b)]);
+                count += 1;
+            }
             true
         }
         None => false,
     });
     read.unwrap_or_else(|stop| end_at(stop, &channel.to_string()));
-    println!("levels channel {channel}\nhalf-periods {}", cutter.count);
-    match cutter.extremes {
+    println!("levels channel {channel}\nhalf-periods {count}");
+    match extremes {
         None => println!("least none\ngreatest none"),
         Some([a, b, c, d]) => {
             println!("least {} to {}", billionths(a), billionths(b));
@@ -66,7 +55,7 @@ fn levels(config: &Config, data: &str, words: &[String]) {
 
 fn check(config: &Config, data: &str) {
     let mut first = None;
-    let read = read_data(data, config, None, |record| {
+    let read = read_data(data, config, &[], |record| {
         first.get_or_insert(record.number);
         true
     });
