@@ -1,29 +1,36 @@
 #!/usr/bin/env python3
-"""Refuses each request for memory in turn, one a run, while `levels` measures the worked example in memory. Outside the gate.
+"""Refuses each request for memory in turn, one a run, while the built program answers a command. Outside the gate.
 
-    tests/refused_memory.py
+    python3 tests/refused_memory.py PROGRAM                 over the examples: `check`, `levels`, `report` and `tables`
+    python3 tests/refused_memory.py PROGRAM WORD ..         the words of any command, in the folder of its files
 
-The top call must then answer 6 and print nothing, or answer as with ample memory and print the whole text. A refusal while the files and
-the words are made ready ends that run. It proves and builds a program over the crates in a temporary folder, and the refusals by `cc`;
-ends with status 1 where an answer is another one."""
+The program must then answer 6 and print nothing, or 4 and `fault read` where the memory was for a file's name, or answer as with ample memory.
+What it appended, where the command appends, must be a front of what it appends with ample memory. `cc` compiles the refusals. Ends with status 1 where
+an answer is another one. Prints a table of counts."""
 import os
+import shutil
 import subprocess
 import sys
 import tempfile
 
-TOP = os.path.dirname(os.path.dirname(os.path.abspath(__file__)))
-sys.path.insert(1, os.path.join(TOP, "bench"))
-import programs  # noqa: E402
+EXAMPLES = os.path.join(os.path.dirname(os.path.dirname(os.path.abspath(__file__))), "examples")
+RUNS = (("damaged", "check recording.cfg recording.dat"), ("square", "levels recording.cfg recording.dat 1 230000 1"),
+        ("dip", "report job.toml recording.cfg recording.dat 1"), ("three_phases", "report job.toml recording.cfg recording.dat 3"),
+        ("three_phases", "tables 230/50"), ("damaged", "check recording.cfg order.dat"))
+NOTHING = (6, b"", b"")
+READ = (4, b"fault read\n", b"")
+FOR_A_NAME = 4      # at most so many requests are made before a file is read: for its name, its place in the table, and to open it
 
 # Stands before the C library: the request with the number REFUSED is refused, and told on the error output.
 REFUSALS = r"""
 #define _GNU_SOURCE
 #include <dlfcn.h>
 #include <errno.h>
+#include <stdatomic.h>
 #include <stdlib.h>
 #include <unistd.h>
 
-static long made;
+static atomic_long made;
 
 static int refused(void)
 {
@@ -71,98 +78,83 @@ int posix_memalign(void **out, size_t alignment, size_t size)
 }
 """
 
-PROGRAM = r"""//! One run of the top call over files in memory.
-#![tactic(auto)]
-
-use flk_io::{MemShelf, MemSink, OutOfMemory, Words};
-use flk_top::{Gate, run};
-use std::alloc::Global;
-use std::process::ExitCode;
-
-const CONFIGURATION: &str = "LAB,DAQ,1999\r\n1,1A,0D\r\n1,U,A,,V,0.01,0,0,-32767,32767,1,1,P\r\n50\r\n1\r\n2400,4800\r\n12/03/2021,09:15:00.000000\r\n12/03/2021,09:15:00.000000\r\nBINARY\r\n1\r\n";
-
-struct Open;
-
-impl Gate for Open {
-    fn enter(&self, phase: usize) {
-        let _ = phase;
-    }
-}
-
-#[derive(Drop)]
-struct Prepared {
-    words: Words,
-    shelf: MemShelf,
-    sink: MemSink,
-}
-
-fn prepare(alloc: Global) -> Result<Prepared, OutOfMemory> {
-    let mut words = Words::new(alloc);
-    for word in ["levels", "X", "Y", "1", "230000", "0"] {
-        words.push(word)?;
-    }
-    let mut data = Vec::new(alloc);
-    for k in 0..4800u32 {
-        let value: i16 = if k / 24 % 2 == 0 { 23000 } else { -23000 };
-        data.extend_from_slice(&(k + 1).to_le_bytes())?;
-        data.extend_from_slice(&[0; 4])?;
-        data.extend_from_slice(&value.to_le_bytes())?;
-    }
-    let mut shelf = MemShelf::new(alloc);
-    shelf.put("X", CONFIGURATION.as_bytes())?;
-    shelf.put("Y", &data)?;
-    let sink = MemSink::new(alloc, 200, 16)?;
-    Ok(Prepared { words, shelf, sink })
-}
-
-fn main(rt: HostRuntime) -> ExitCode {
-    let Ok(mut made) = prepare(rt.alloc()) else {
-        let _ = println!(rt; "not ready");
-        return ExitCode::from(0);
-    };
-    let status = run(&rt, rt.alloc(), &made.words, &mut made.shelf, &mut made.sink, &Open);
-    let _ = println!(rt; "{status} {}", made.sink.written().len());
-    ExitCode::from(0)
-}
-"""
-
-AMPLE = "0 103"
-NOTHING = "6 0"
-NOT_READY = "not ready"
 
 
 def library(folder):
     """The path of the library that refuses requests."""
     source, built = os.path.join(folder, "refusals.c"), os.path.join(folder, "refusals.so")
-    with open(source, "w") as f:
-        f.write(REFUSALS)
+    with open(source, "w") as file:
+        file.write(REFUSALS)
     subprocess.run(["cc", "-shared", "-fPIC", "-O1", "-o", built, source, "-ldl"], check=True)
     return built
 
 
-def answered(program, refusals, number):
-    """What the program prints where the request of this number is refused, and whether there was one."""
-    environment = dict(os.environ, LD_PRELOAD=refusals, REFUSED=str(number))
-    ran = subprocess.run([program], env=environment, capture_output=True, text=True)
-    return ran.stdout.strip(), ran.stderr == "refused\n"
+def contents(folder):
+    """What stands under each name of a folder."""
+    found = {}
+    for name in os.listdir(folder):
+        if os.path.isfile(os.path.join(folder, name)):
+            with open(os.path.join(folder, name), "rb") as file:
+                found[name] = file.read()
+    return found
+
+
+class Command:
+    """A command in a copy of the folder of its files, and its answer with ample memory."""
+
+    def __init__(self, program, refusals, source, words):
+        self.program, self.refusals, self.source, self.words = program, refusals, source, words
+        self.right, self.made, _ = self.answer(0)
+
+    def answer(self, number):
+        """Status, output and error output where the request of this number is refused, what then stands in the folder, and whether one was."""
+        environment = dict(os.environ, LD_PRELOAD=self.refusals, REFUSED=str(number))
+        with tempfile.TemporaryDirectory() as folder:
+            work = os.path.join(folder, "work")
+            shutil.copytree(self.source, work)
+            ran = subprocess.run([self.program] + self.words, cwd=work, env=environment, stdin=subprocess.DEVNULL, capture_output=True, timeout=120)
+            made = contents(work)
+        refused = ran.stderr.startswith(b"refused\n")
+        return (ran.returncode, ran.stdout, ran.stderr[8 * refused:]), made, refused
+
+    def appended(self, made):
+        """Whether what stands in the folder is a front of what stands there with ample memory."""
+        return all(self.made.get(name, b"").startswith(content) for name, content in made.items())
+
+
+def tried(command):
+    """The counts of each answer while each request is refused in turn; None where an answer is another one."""
+    counts, number = {command.right: 0, NOTHING: 0, READ: 0}, 0
+    names = sum(os.path.exists(os.path.join(command.source, word)) for word in command.words)
+    while True:
+        number += 1
+        said, made, refused = command.answer(number)
+        if said not in counts or not command.appended(made) or (said == command.right and made != command.made):
+            print("%s: request %d refused: %r" % (" ".join(command.words), number, said))
+            return None
+        if not refused:
+            break
+        counts[said] += 1
+    if counts[NOTHING] == 0 and command.right != NOTHING or counts[READ] > FOR_A_NAME * names:
+        print("%s: %r" % (" ".join(command.words), counts))
+        return None
+    return number - 1, counts[NOTHING], counts[READ], counts[command.right]
 
 
 def main():
-    counts = {AMPLE: 0, NOTHING: 0, NOT_READY: 0}
+    if len(sys.argv) < 2:
+        sys.exit(__doc__)
+    runs = [(os.getcwd(), sys.argv[2:])] if sys.argv[2:] else [(os.path.join(EXAMPLES, name), words.split()) for name, words in RUNS]
+    failed = False
+    print("| words | requests | status 6, nothing printed | status 4, `fault read` | the whole text |\n|---|---|---|---|---|")
     with tempfile.TemporaryDirectory() as folder:
-        program = programs.over_crates(folder, "refused_memory", ["flk_io", "flk_top"], {"src/main.rt": PROGRAM})
         refusals = library(folder)
-        number, refused = 0, True
-        while refused:
-            number += 1
-            said, refused = answered(program, refusals, number)
-            if said not in counts:
-                sys.exit("request %d refused: %r" % (number, said))
-            counts[said] += refused
-    if said != AMPLE or counts[NOTHING] == 0:
-        sys.exit("with ample memory: %r; %r" % (said, counts))
-    print("%d requests refused in turn" % (number - 1))
-    print("%d before the call; status 6 and nothing printed %d, the whole text %d" % (counts[NOT_READY], counts[NOTHING], counts[AMPLE]))
+        for source, words in runs:
+            counts = tried(Command(os.path.abspath(sys.argv[1]), refusals, source, words))
+            failed = failed or counts is None
+            if counts:
+                print("| `%s` | %d | %d | %d | %d |" % ((" ".join(words),) + counts), flush=True)
+    sys.exit(1 if failed else 0)
 
 
 if __name__ == "__main__":
