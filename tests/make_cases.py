@@ -161,7 +161,7 @@ def reports():
         group.case(name, note, words, j_toml=j, **files)
 
     report("pass", "a calm supply")
-    report("dip", "a dip of 5 percent for 80 ms fails by dmax and Pst")
+    report("dip", "a dip of 5 percent for 80 ms fails by dmax and Pst", "dip")
     report("dip_at_6", "dmax of the same dip passes with a limit of 6 percent", "dip", JOB.replace("dmax = 4", "dmax = 6"))
     report("step", "a step of 5 percent to a new steady level fails by dc, dmax and Pst", "step")
     report("deep", "a dip of 11 percent for 0.6 seconds fails by dmax, t and Pst", "deep", JOB.replace("dmax = 4", "dmax = 7"))
