@@ -1,4 +1,5 @@
 """One run of the program at the edge of the system, and the table of tests/edges.py."""
+import collections
 import contextlib
 import os
 import shutil
@@ -33,20 +34,23 @@ class Row:
     """A row of the table: counts its cases, and tells of those with another answer."""
 
     def __init__(self, what, answer):
-        self.what, self.answer, self.cases, self.failed = what, answer, 0, 0
+        self.what, self.answer, self.cases, self.failed, self.statuses = what, answer, 0, 0, collections.Counter()
 
     def case(self, name, got, *wanted):
         """A case: what it is, the status, output and error output that it gave, and the answers that are right."""
         self.cases += 1
         status, out, err = got
+        self.statuses[status] += 1
         if err or not any(status == number and same(text, out) for number, text in wanted):
             self.failed += 1
             print("%s, %s: status %s, output %r, error output %r; wanted %s" % (
                 self.what, name, status, out[:200], err[:200], [(n, bytes(t)[:80]) for n, t in wanted]), flush=True)
 
     def holds(self, name, right):
-        """A case that is right or wrong, of files that a run left."""
-        self.case(name, (right, b"", b""), (True, b""))
+        """Tells of files that the run before left, where they are wrong."""
+        if not right:
+            self.failed += 1
+            print("%s, %s: the files are wrong" % (self.what, name), flush=True)
 
 
 class Table:
@@ -63,9 +67,10 @@ class Table:
         return sum(row.failed for row in self.rows)
 
     def print(self):
-        print("| what | cases | answer |\n|---|---|---|")
+        print("| what | cases | answer | cases by status |\n|---|---|---|---|")
         for row in self.rows:
-            print("| %s | %d | %s |" % (row.what, row.cases, row.answer))
+            statuses = ", ".join("%s: %d" % pair for pair in sorted(row.statuses.items(), key=str))
+            print("| %s | %d | %s | %s |" % (row.what, row.cases, row.answer, statuses))
         print("\n%d cases, %d with another answer" % (sum(row.cases for row in self.rows), self.failed()))
 
 

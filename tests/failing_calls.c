@@ -39,6 +39,12 @@ static void note(const char *text)
     }
 }
 
+/* Opened to keep a closed standard stream's place, and never read or written; such an open isn't counted. */
+static int keeps_a_place(const char *path)
+{
+    return !strcmp(path, "/dev/null");
+}
+
 /* Whether a descriptor is that of CALLS_FILE, or any will do. */
 static int counts(int fd)
 {
@@ -98,6 +104,8 @@ static int turned(char kind, int fd)
         va_start(rest, flags); \
         int mode = va_arg(rest, int); \
         va_end(rest); \
+        if (keeps_a_place(path)) \
+            return REAL(name)(path, flags, mode); \
         UNLESS_TURNED('o', -1) \
         return REAL(name)(path, flags, mode); \
     }
@@ -109,6 +117,8 @@ static int turned(char kind, int fd)
         va_start(rest, flags); \
         int mode = va_arg(rest, int); \
         va_end(rest); \
+        if (keeps_a_place(path)) \
+            return REAL(name)(folder, path, flags, mode); \
         UNLESS_TURNED('o', -1) \
         return REAL(name)(folder, path, flags, mode); \
     }

@@ -56,7 +56,9 @@ class Laboratory:
             return {}
         with open(path) as file:
             rows = [line.rstrip("\n").split("\t") for line in file][1:]
-        return {row[8].replace("./judge ", ""): int(row[6]) for row in rows if len(row) == 9}
+        with open(os.path.join(self.folder, "names")) as file:
+            names = file.read().splitlines()
+        return {names[int(row[0]) - 1]: int(row[6]) for row in rows if len(row) == 9}
 
     def reports(self):
         found = {}
@@ -68,14 +70,14 @@ class Laboratory:
         return found
 
 
-def make(folder, count):
-    """The files of `count` recordings, in ten folders."""
+def make(folder, count, gap):
+    """The files of `count` recordings, in ten folders; `gap` stands in their names."""
     for number in range(1, count + 1):
         recording = Recording(7, number)
-        place = os.path.join(folder, "series %d" % (number % 10))
+        place = os.path.join(folder, "series%s%d" % (gap, number % 10))
         os.makedirs(place, exist_ok=True)
         for kind, content in (("toml", recording.job()), ("cfg", recording.configuration()), ("dat", recording.data())):
-            with open(os.path.join(place, "recording %d.%s" % (number, kind)), "wb") as file:
+            with open(os.path.join(place, "recording%s%d.%s" % (gap, number, kind)), "wb") as file:
                 file.write(content)
 
 
@@ -115,7 +117,7 @@ def main():
         os.makedirs(os.path.join(home, ".parallel"))
         open(os.path.join(home, ".parallel", "will-cite"), "w").close()
         environment = dict(os.environ, PATH=programs + ":" + os.environ["PATH"], PARALLEL_HOME=os.path.join(home, ".parallel"))
-        make(recordings, count)
+        make(recordings, count, "_" if sys.argv[3:] else " ")
         began = time.time()
         first = Laboratory(top, "first", recordings, environment)
         first.run("run")

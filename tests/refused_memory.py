@@ -19,7 +19,7 @@ RUNS = (("damaged", "check recording.cfg recording.dat"), ("square", "levels rec
         ("three_phases", "tables 230/50"), ("damaged", "check recording.cfg order.dat"))
 NOTHING = (6, b"", b"")
 READ = (4, b"fault read\n", b"")
-FOR_A_NAME = 4      # at most so many requests are made before a file is read: for its name, its place in the table, and to open it
+FOR_A_NAME = 2      # at most so many requests are made for a name before its file is read: for its bytes, and for its place in the table
 
 # Stands before the C library: the request with the number REFUSED is refused, and told on the error output.
 REFUSALS = r"""
