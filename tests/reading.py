@@ -2,7 +2,7 @@
 """Checks docs/READING.md: that it lists exactly the definitions on which the clauses of `run` rest.
 
     python3 tests/reading.py            checks the page, and ends with status 1 where it isn't right
-    python3 tests/reading.py --print    prints what is reached, file by file
+    python3 tests/reading.py --write    writes the names that are reached into the rows of the page, and prints the files that have no row
 
 A definition is reached where its name stands in a clause of `run` in crates/flk_top/src/lib.rt, in the contract of a trait that `run` takes
 (Shelf and Sink in flk_io, Gate in flk_phase), or in a definition that is reached. Names of the standard library and of the ported libraries
@@ -150,15 +150,37 @@ def listed():
     return rows
 
 
+def cell(names):
+    return ", ".join("`%s`" % name.replace("|", "\\|") for name in names)
+
+
+def write(rows, library):
+    """Writes the names into the rows of the page, and prints the files that have none."""
+    lines, there = [], set()
+    of = {crate: sorted(name for c, name in library if c == crate) for crate, _ in library}
+    for line in read(PAGE).splitlines():
+        match = re.match(r"\| `([\w/]+\.(?:antt|rt))` \| .*? (\| [^|]* \|)$", line)
+        own = re.match(r"\| `(\w+)` \| `", line)
+        if match:
+            there.add(match[1])
+            if not rows[match[1]]:
+                continue
+            line = "| `%s` | %s %s" % (match[1], cell(rows[match[1]]), match[2])
+        elif own and own[1] in of:
+            line = "| `%s` | %s |" % (own[1], cell(of[own[1]]))
+        lines.append(line + "\n")
+    with open(PAGE, "w", encoding="utf-8") as file:
+        file.write("".join(lines))
+    for path in sorted(set(rows) - there):
+        if rows[path]:
+            print("| `%s` | %s | |" % (path, cell(rows[path])))
+
+
 def main():
     reached = Reached()
     rows = reached.by_file()
-    if sys.argv[1:] == ["--print"]:
-        for path in sorted(rows):
-            print("| `%s` | %s | |" % (path, ", ".join("`%s`" % name for name in rows[path])))
-        for crate in sorted({crate for crate, _ in reached.library}):
-            print("%s: %s" % (crate, ", ".join("`%s`" % name for c, name in sorted(reached.library) if c == crate)))
-        return
+    if sys.argv[1:] == ["--write"]:
+        write(rows, reached.library)
     page, wrong = listed(), 0
     for path in sorted(set(rows) | set(page)):
         for what, names in (("isn't listed", set(rows[path]) - set(page[path])), ("isn't reached", set(page[path]) - set(rows[path]))):
