@@ -239,6 +239,7 @@ ALWAYS = 10 ** 9
 TURNS = (("r", (EIO, ENOMEM, EAGAIN), "a read fails (EIO, ENOMEM, EAGAIN)", "4, `fault read`"),
          ("o", (ENOENT, EIO, EMFILE, ENOMEM), "an open fails (ENOENT, EIO, EMFILE, ENOMEM)", "4, `fault read`"),
          ("w", (EIO, ENOSPC, EPIPE, EAGAIN), "a write fails (EIO, ENOSPC, EPIPE, EAGAIN)", "5, a front of the text"),
+         ("o", (EINTR,), "an open is interrupted once (EINTR)", "the whole text"),
          ("r", (EINTR,), "a read is interrupted once (EINTR)", "the whole text"),
          ("w", (EINTR,), "a write is interrupted once (EINTR)", "the whole text"),
          ("r", ("short",), "a read gives one byte", "the whole text"),
@@ -248,12 +249,9 @@ TURNS = (("r", (EIO, ENOMEM, EAGAIN), "a read fails (EIO, ENOMEM, EAGAIN)", "4, 
 
 
 def answer_of(kind, turned, right):
-    if isinstance(turned, int) and turned != EINTR:
-        if kind in "ro":
-            return READ
-        if kind == "w":
-            return 5, Front(right[1])
-    return right
+    if turned in (EINTR, "short") or kind in "ct":
+        return right
+    return (5, Front(right[1])) if kind == "w" else READ
 
 
 def in_turn(table, calls):
