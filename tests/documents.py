@@ -2,7 +2,8 @@
 """Checks what a script can check of the documents: `python3 tests/documents.py`.
 
 Every file that a document names is there. docs/MAP.md has exactly the crates of crates.txt, and exactly the modules of flk_top. Every name of code in
-docs/THEOREMS.md stands in the crate in whose row it is named, or in the repository where it is named elsewhere. The README has at most 900 words. Prints what
+docs/THEOREMS.md stands in the crate in whose row it is named, or in the repository where it is named elsewhere. docs/DEFINITIONS.md names each
+file of definitions that is on docs/READING.md. The README has at most 900 words. Prints what
 is wrong, and ends with status 1 where something is."""
 import glob
 import os
@@ -72,8 +73,22 @@ def names_of_theorems():
                     yield "docs/THEOREMS.md: `%s` isn't in %s" % (name, row[1])
 
 
+def definitions():
+    """Every file of the reading list whose crate's definitions have plain words."""
+    named, crate, above = set(), None, None
+    for line in read("docs/DEFINITIONS.md").splitlines():
+        cell = line.rstrip("| ").rsplit("|", 1)[-1]
+        for name in ([above] if "the same" in cell and above else []) + re.findall(r"`([\w./]+)`", cell):
+            crate = name.split("/")[0] if "/" in name else crate
+            above = "%s/specs/%s" % (crate, name.split("/")[-1])
+            named.add(above)
+    for path in re.findall(r"^\| `(\w+/specs/\w+\.antt)`", read("docs/READING.md"), re.M):
+        if path not in named:
+            yield "docs/DEFINITIONS.md doesn't name %s" % path
+
+
 def main():
-    wrong = [*missing_files(), *map_of_crates(), *names_of_theorems()]
+    wrong = [*missing_files(), *map_of_crates(), *names_of_theorems(), *definitions()]
     words = len(read("README.md").split())
     if words > 900:
         wrong.append("README.md has %d words" % words)
