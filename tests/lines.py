@@ -3,7 +3,7 @@
 
     python3 tests/lines.py PROGRAM
 
-An example is a block that begins with `$ flicker WORDS`, and runs in the last folder of examples/ that the text named before it. A line `..` in it stands
+An example is a block that begins with `$ flicker WORDS`, and runs in the folder of examples/ or of tests/cases/ that the text named last. A line `..` in it stands
 for any lines. PROGRAM may be `"python3 tests/reference.py"`. Ends with status 1 where something differs."""
 import os
 import re
@@ -33,7 +33,7 @@ def examples(page):
     """The folder, the words and the lines of each example."""
     folder, block = "", None
     for line in read(page).splitlines():
-        named = re.search(r"examples/(\w+)", line)
+        named = re.search(r"(examples/\w+|tests/cases/\w+/\w+)", line)
         if named and not (block and block[0].startswith("$ flicker ")):
             folder = named[1]
         if line == "```":
@@ -61,7 +61,7 @@ def main():
     for name in ("docs/LINES.md", "README.md"):
         for folder, words, wanted in examples(name):
             count += 1
-            run = subprocess.run(program + words, cwd=os.path.join(TOP, "examples", folder), capture_output=True, text=True, timeout=60)
+            run = subprocess.run(program + words, cwd=os.path.join(TOP, folder or "examples"), capture_output=True, text=True, timeout=60)
             if run.stderr or not fits(wanted, run.stdout):
                 wrong += 1
                 print("%s, %s: printed %r %r" % (name, " ".join(words), run.stdout, run.stderr))

@@ -172,6 +172,8 @@ def reports():
     report("run_in", "the first second isn't judged", "flicker", JOB.replace("run_in_s = 0", "run_in_s = 1"))
     report("two_seconds", "one interval of two seconds", "step", JOB.replace("interval_s = 1", "interval_s = 2"))
     report("sixteen_workers", "16 workers on one channel", "dip", workers="16")
+    report("twelve", "twelve intervals, and so the long-term severity", "d.dat", cfg="c.cfg", c_cfg=recording.replace("2400,5280", "2400,28800"),
+           d_dat=binary_data(samples(wave(24), [3253 if n // 6 % 2 else 3249 for n in range(1200)])))
     three = configuration([("UA", "A", "V", "0.1", "0"), ("I", "", "A", "0.1", "0"), ("UB", "B", "V", "0.1", "0")], 2400, form="BINARY")
     calm, other = samples(wave(24), [3253] * 100), samples(wave(24), [3253] * 60 + [2900] * 40)
     report("order", "two channels in the job's order", "d.dat", JOB.replace("[1]", "[3, 1]"), "c.cfg", "2", c_cfg=three, d_dat=binary_data(calm, calm, other))
