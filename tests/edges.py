@@ -19,7 +19,7 @@ import threading
 import time
 
 sys.dont_write_bytecode = True
-from edge_runs import (CHECK, LEVELS, READ, READING, REPORT, TABLES, USAGE, Calls, Command, Front, Table, as_nobody, closed,  # noqa: E402
+from edge_runs import (CHECK, READ, READING, REPORT, TABLES, USAGE, Calls, Command, Front, Table, as_nobody, closed,  # noqa: E402
                        content, copy, run)
 
 # ---- names
@@ -286,7 +286,8 @@ def workers(table):
     for command in (Command("dip"), REPORT):
         for number in range(1, 17):
             row.case("%d workers" % number, run(table, command.words[:-1] + [str(number)], command.source), command.right)
-    row = table.row("an address space of 2,500 to 8,000 kilobytes (`ulimit -v`), every 50", "6, nothing printed, or the whole text; or 4, `fault read`")
+    row = table.row("an address space of 2,500 to 8,000 kilobytes (`ulimit -v`), every 50",
+                    "6, nothing printed, or the whole text; or 4, `fault read`")
     for command in READING + (TABLES,):
         for size in range(2500, 8000, 50):
             def limit():

@@ -3,8 +3,8 @@
 
     python3 tests/lines.py PROGRAM
 
-An example is a block that begins with `$ flicker WORDS`, and runs in the folder of examples/ or of tests/cases/ that the text named last. A line `..` in it stands
-for any lines. PROGRAM may be `"python3 tests/reference.py"`. Ends with status 1 where something differs."""
+An example is a block that begins with `$ flicker WORDS`, and runs in the folder of examples/ or of tests/cases/ that the text named last.
+A line `..` in it stands for any lines. PROGRAM may be `"python3 tests/reference.py"`. Ends with status 1 where something differs."""
 import os
 import re
 import shlex

@@ -53,6 +53,87 @@ def line(text, number, content):
     return "\n".join(lines)
 
 
+# faulty configurations: a name, what is wrong, and the text
+CONFIGURATION_FAULTS = (
+    ("end", "the file ends before line 5", GOOD[:GOOD.index("50\n") + 3]),
+    ("nothing", "no byte at all", ""),
+    ("fields", "line 4 has two fields", line(GOOD, 4, "50,60")),
+    ("number", "a frequency that isn't a number", line(GOOD, 4, "50 Hz")),
+    ("sum", "the counts don't add up", line(GOOD, 2, "2,1A,0D")),
+    ("digits", "19 digits", GOOD.replace("0.01", "1.234567890123456789")),
+    ("day", "29 February 2023", GOOD.replace("12/03/2021", "29/02/2023", 1)),
+    ("trigger", "hour 24 of the trigger", line(GOOD, 8, "12/03/2021,24:00:00")),
+    ("date_form", "points in a date", line(GOOD, 7, "12.03.2021,09:15:00")),
+    ("form", "an unknown form", GOOD.replace("ASCII", "BINARY16")),
+    ("letter", "a count without its letter", line(GOOD, 2, "1,1,0D")),
+    ("side", "PS is another letter", GOOD.replace(",P\n", ",Q\n")),
+    ("revision", "the revision of 1991", GOOD.replace("1999", "1991")),
+    ("old_title", "a first line of two fields", line(GOOD, 1, "LAB,DAQ")),
+    ("rates", "two sampling rates", line(GOOD, 5, "2")),
+    ("rate", "1200 samples a second", GOOD.replace("2400,", "1200,")),
+    ("records", "no record", GOOD.replace("2400,3", "2400,0")),
+    ("long_text", "a text of 65 bytes", GOOD.replace(",U,", "," + "U" * 65 + ",")),
+    ("no_tail", "a line behind the last one", GOOD + "0\n"),
+    ("position", "the channel's number isn't its position", line(GOOD, 3, "2" + GOOD.split("\n")[2][1:])),
+)
+
+# faulty ASCII data
+DATA_FAULTS = (
+    ("fields", "a record of two fields", line(THREE, 2, "2,23000")),
+    ("number", "a value with a point", line(THREE, 2, "2,,23.0")),
+    ("stamp", "a time stamp that isn't a number", line(THREE, 2, "2,x,23000")),
+    ("range", "a value of six digits", line(THREE, 2, "2,,100000")),
+    ("sample_number", "a sample number above its set", line(THREE, 1, "4294967296,,23000")),
+    ("order", "a sample number is left out", line(THREE, 3, "4,,-23000")),
+    ("short", "a record less", "1,,23000\n2,,23000\n"),
+    ("long", "a record more", THREE + "4,,0\n"),
+    ("blank", "a blank line between records", "1,,0\n\n2,,0\n3,,0\n"),
+    ("marker", "a byte 1A before the last record", "1,,0\n2,,0\n\x1a3,,0\n"),
+    ("second_marker", "two bytes 1A at the end", THREE + "\x1a\x1a"),
+)
+
+# faulty jobs
+JOB_FAULTS = (
+    ("toml", "no TOML document", "lamp = "),
+    ("twice", "a key twice", JOB + "dmax = 4\n"),
+    ("unknown", "an unknown key", JOB + "limit = 1\n"),
+    ("absent", "no nominal voltage", JOB.replace("nominal_mv = 230000\n", "")),
+    ("type", "a channel that is a string", JOB.replace("[1]", '[1, "2"]')),
+    ("float", "a fraction for an integer", JOB.replace("230000", "230000.0")),
+    ("uncertainty", "more than a hundredth of nominal", JOB.replace("1000", "2300001")),
+    ("same_channel", "a channel twice", JOB.replace("[1]", "[1, 1]")),
+    ("no_channels", "no channel", JOB.replace("[1]", "[]")),
+    ("dmax", "a limit of 5 percent", JOB.replace("dmax = 4", "dmax = 5")),
+    ("lamp", "another lamp", JOB.replace("230/50", "100/50")),
+)
+
+# jobs that the configuration doesn't match
+MATCH_FAULTS = (
+    ("channel", "a channel that isn't there", JOB.replace("[1]", "[7]")),
+    ("lamp", "the lamp of the other frequency", JOB.replace("230/50", "120/60")),
+    ("short", "too few records for the run-in and an interval", JOB.replace("interval_s = 1", "interval_s = 3")),
+)
+
+# words that no command has
+USAGE = (
+    ("unknown", "reports"),
+    ("capital", "Check c.cfg d.dat"),
+    ("check_short", "check c.cfg"),
+    ("check_long", "check c.cfg d.dat 1"),
+    ("same_names", "check c.cfg c.cfg"),
+    ("channel_0", "levels c.cfg d.dat 0 230000 0"),
+    ("channel_257", "levels c.cfg d.dat 257 230000 0"),
+    ("nominal", "levels c.cfg d.dat 1 999 0"),
+    ("uncertainty", "levels c.cfg d.dat 1 1000 10001"),
+    ("sign", "levels c.cfg d.dat +1 230000 0"),
+    ("eleven_digits", "levels c.cfg d.dat 1 00000230000 0"),
+    ("no_workers", "report j.toml c.cfg d.dat"),
+    ("workers_0", "report j.toml c.cfg d.dat 0"),
+    ("workers_17", "report j.toml c.cfg d.dat 17"),
+    ("job_and_data", "report a c.cfg a 1"),
+)
+
+
 def checks():
     group = Group("check")
     words = "check c.cfg d.dat"
@@ -66,10 +147,12 @@ def checks():
     accepted("no_last_line_end", "neither file has a last line end", GOOD[:-1], THREE[:-1])
     accepted("tails", "line ends, spaces and one byte 1A behind the last line", GOOD + "\r\n \x1a", THREE + "\x1a\r\n")
     accepted("spaces", "spaces at both ends of fields", GOOD.replace(",", " , "), THREE.replace(",", " ,  "))
-    accepted("lower_case", "letters of the counts, the form and PS in lower case", GOOD.replace("1A,0D", "1a,0d").replace("ASCII", "ascii").replace(",P", ",p"))
+    accepted("lower_case", "letters of the counts, the form and PS in lower case",
+             GOOD.replace("1A,0D", "1a,0d").replace("ASCII", "ascii").replace(",P", ",p"))
     accepted("empty_skew", "an empty skew is 0", line(GOOD, 3, "1,U,A,,V,0.01,0,,-32767,32767,1,1,P"))
     accepted("exponents", "decimals with exponents", line(GOOD, 3, "1,U,A,,V,1E-2,.0e5,0.,-3.2767e4,+32767,1,1.0,P"))
-    accepted("two_rates_of_time", "4800 samples a second, one digit for day and hour", GOOD.replace("2400,", "4.8E3,").replace("12/03/2021,09", "1/3/2021,9"))
+    accepted("two_rates_of_time", "4800 samples a second, one digit for day and hour",
+             GOOD.replace("2400,", "4.8E3,").replace("12/03/2021,09", "1/3/2021,9"))
     accepted("leap_day", "29 February 2024, and nine digits of a second", GOOD.replace("12/03/2021,09:15:00.000000", "29/02/2024,23:59:59.123456789"))
     accepted("channels", "two analog channels and a digital one", TWO, "1,,1,2,0\n2,,3,4,1\n3,,5,6,0\n")
     accepted("digital_words", "17 digital channels take two words", GOOD.replace("1,1A,0D", "18,1A,17D").replace("50\n", "".join(
@@ -78,24 +161,9 @@ def checks():
     accepted("first_number", "the first sample number is free, the last one is the greatest", d="4294967293,,0\n4294967294,,0\n4294967295,,0\n")
     accepted("stamps", "time stamps have no further meaning", d="1,9999999999,0\n2,0,0\n3,,0\n")
     accepted("missing_value", "a missing value is no fault where no channel is measured", d="1,,99999\n2,,0\n3,,0\n")
-    for name, note, change in (
-            ("end", "the file ends before line 5", GOOD[:GOOD.index("50\n") + 3]), ("nothing", "no byte at all", ""),
-            ("fields", "line 4 has two fields", line(GOOD, 4, "50,60")), ("number", "a frequency that isn't a number", line(GOOD, 4, "50 Hz")),
-            ("sum", "the counts don't add up", line(GOOD, 2, "2,1A,0D")), ("digits", "19 digits", GOOD.replace("0.01", "1.234567890123456789")),
-            ("day", "29 February 2023", GOOD.replace("12/03/2021", "29/02/2023", 1)), ("trigger", "hour 24 of the trigger", line(GOOD, 8, "12/03/2021,24:00:00")),
-            ("date_form", "points in a date", line(GOOD, 7, "12.03.2021,09:15:00")), ("form", "an unknown form", GOOD.replace("ASCII", "BINARY16")),
-            ("letter", "a count without its letter", line(GOOD, 2, "1,1,0D")), ("side", "PS is another letter", GOOD.replace(",P\n", ",Q\n")),
-            ("revision", "the revision of 1991", GOOD.replace("1999", "1991")), ("old_title", "a first line of two fields", line(GOOD, 1, "LAB,DAQ")),
-            ("rates", "two sampling rates", line(GOOD, 5, "2")), ("rate", "1200 samples a second", GOOD.replace("2400,", "1200,")),
-            ("records", "no record", GOOD.replace("2400,3", "2400,0")), ("long_text", "a text of 65 bytes", GOOD.replace(",U,", "," + "U" * 65 + ",")),
-            ("no_tail", "a line behind the last one", GOOD + "0\n"), ("position", "the channel's number isn't its position", line(GOOD, 3, "2" + GOOD.split("\n")[2][1:]))):
+    for name, note, change in CONFIGURATION_FAULTS:
         accepted("cfg_" + name, "configuration: " + note, change)
-    for name, note, change in (
-            ("fields", "a record of two fields", line(THREE, 2, "2,23000")), ("number", "a value with a point", line(THREE, 2, "2,,23.0")),
-            ("stamp", "a time stamp that isn't a number", line(THREE, 2, "2,x,23000")), ("range", "a value of six digits", line(THREE, 2, "2,,100000")),
-            ("sample_number", "a sample number above its set", line(THREE, 1, "4294967296,,23000")), ("order", "a sample number is left out", line(THREE, 3, "4,,-23000")),
-            ("short", "a record less", "1,,23000\n2,,23000\n"), ("long", "a record more", THREE + "4,,0\n"), ("blank", "a blank line between records", "1,,0\n\n2,,0\n3,,0\n"),
-            ("marker", "a byte 1A before the last record", "1,,0\n2,,0\n\x1a3,,0\n"), ("second_marker", "two bytes 1A at the end", THREE + "\x1a\x1a")):
+    for name, note, change in DATA_FAULTS:
         accepted("dat_" + name, "data: " + note, d=change)
     binary, rows = GOOD.replace("ASCII", "BINARY"), binary_data([23000, 23000, -23000])
     accepted("dat_binary_short", "data: a byte less in BINARY", binary, rows[:-1])
@@ -123,16 +191,20 @@ def levels():
     measured("no_half_period", "too few records for a half-period", configuration([("U", "A", "V", "1", "0")], 11), ascii_data(row[:11]))
     measured("no_sign_change", "a voltage that never changes its sign is cut at twice half a period", d=ascii_data([230] * len(row)))
     measured("zeros", "no voltage at all", d=ascii_data([0] * len(row)))
-    measured("short_half_periods", "a sign change within less than half of half a period is no cut", d=ascii_data(samples(square(10), [230] * 14) + [230] * 4))
+    measured("short_half_periods", "a sign change within less than half of half a period is no cut",
+             d=ascii_data(samples(square(10), [230] * 14) + [230] * 4))
     measured("kilovolts", "a channel in kV with an offset", configuration([("U", "A", "kV", "0.001", "0.01")], len(row)))
     measured("negative_scale", "a negative scale", configuration([("U", "A", "v", "-1", "0")], len(row)))
-    measured("sixty_hertz", "60 Hz at 4800 samples a second", configuration([("U", "A", "V", "1", "0")], 240, 60, 4800), ascii_data(samples(square(40), [120] * 6)), "levels c.cfg d.dat 1 120000 50")
+    measured("sixty_hertz", "60 Hz at 4800 samples a second", configuration([("U", "A", "V", "1", "0")], 240, 60, 4800),
+             ascii_data(samples(square(40), [120] * 6)), "levels c.cfg d.dat 1 120000 50")
     measured("second_channel", "the second of two channels", configuration([("U", "A", "A", "1", "0"), ("V", "B", "V", "0.5", "0")], len(row)),
              ascii_data(row, [2 * value for value in row]), words.replace(" 1 ", " 2 "))
     measured("binary", "in BINARY", configuration([("U", "A", "V", "1", "0")], len(row), form="BINARY"), binary_data(row))
     measured("missing", "a missing value of the channel", d=ascii_data(row[:5] + [99999] + row[6:]))
-    measured("missing_binary", "a missing value in BINARY", configuration([("U", "A", "V", "1", "0")], len(row), form="BINARY"), binary_data(row[:5] + [-32768] + row[6:]))
-    measured("missing_elsewhere", "a missing value of another channel is no fault", configuration([("U", "A", "V", "1", "0"), ("V", "B", "V", "1", "0")], len(row)),
+    measured("missing_binary", "a missing value in BINARY", configuration([("U", "A", "V", "1", "0")], len(row), form="BINARY"),
+             binary_data(row[:5] + [-32768] + row[6:]))
+    measured("missing_elsewhere", "a missing value of another channel is no fault",
+             configuration([("U", "A", "V", "1", "0"), ("V", "B", "V", "1", "0")], len(row)),
              ascii_data(row, [99999] * len(row)))
     measured("limit_of_range", "exactly four times nominal is in range", d=ascii_data(row[:7] + [920] + row[8:]))
     measured("over_range", "one step above four times nominal", d=ascii_data(row[:7] + [-921] + row[8:]))
@@ -176,23 +248,19 @@ def reports():
            d_dat=binary_data(samples(wave(24), [3253 if n // 6 % 2 else 3249 for n in range(1200)])))
     three = configuration([("UA", "A", "V", "0.1", "0"), ("I", "", "A", "0.1", "0"), ("UB", "B", "V", "0.1", "0")], 2400, form="BINARY")
     calm, other = samples(wave(24), [3253] * 100), samples(wave(24), [3253] * 60 + [2900] * 40)
-    report("order", "two channels in the job's order", "d.dat", JOB.replace("[1]", "[3, 1]"), "c.cfg", "2", c_cfg=three, d_dat=binary_data(calm, calm, other))
+    report("order", "two channels in the job's order", "d.dat", JOB.replace("[1]", "[3, 1]"), "c.cfg", "2",
+           c_cfg=three, d_dat=binary_data(calm, calm, other))
     report("first_of_the_job", "of two channels over range in one record the job's first is named", "d.dat", JOB.replace("[1]", "[3, 1]"), "c.cfg",
            c_cfg=three, d_dat=binary_data(calm[:9] + [9999] + calm[10:], calm, other[:9] + [9999] + other[10:]))
     report("spaces", "a job with a comment and an integer in base 16", j=JOB.replace("dmax = 4", "dmax = 0x4 # percent"))
-    for name, note, change in (
-            ("toml", "no TOML document", "lamp = "), ("twice", "a key twice", JOB + "dmax = 4\n"), ("unknown", "an unknown key", JOB + "limit = 1\n"),
-            ("absent", "no nominal voltage", JOB.replace("nominal_mv = 230000\n", "")), ("type", "a channel that is a string", JOB.replace("[1]", '[1, "2"]')),
-            ("float", "a fraction for an integer", JOB.replace("230000", "230000.0")), ("uncertainty", "more than a hundredth of nominal", JOB.replace("1000", "2300001")),
-            ("same_channel", "a channel twice", JOB.replace("[1]", "[1, 1]")), ("no_channels", "no channel", JOB.replace("[1]", "[]")),
-            ("dmax", "a limit of 5 percent", JOB.replace("dmax = 4", "dmax = 5")), ("lamp", "another lamp", JOB.replace("230/50", "100/50"))):
+    for name, note, change in JOB_FAULTS:
         report("job_" + name, "job: " + note, j=change)
-    for name, note, change in (
-            ("channel", "a channel that isn't there", JOB.replace("[1]", "[7]")), ("lamp", "the lamp of the other frequency", JOB.replace("230/50", "120/60")),
-            ("short", "too few records for the run-in and an interval", JOB.replace("interval_s = 1", "interval_s = 3"))):
+    for name, note, change in MATCH_FAULTS:
         report("match_" + name, "match: " + note, j=change)
-    report("match_long", "match: above 20,000,000 records; the data aren't read", cfg="c.cfg", data="absent.dat", c_cfg=recording.replace("2400,5280", "2400,20000001"))
-    report("configuration_first", "the configuration is refused before the data are looked at", cfg="c.cfg", data="absent.dat", c_cfg=recording.replace("1999", "1991"))
+    report("match_long", "match: above 20,000,000 records; the data aren't read",
+           cfg="c.cfg", data="absent.dat", c_cfg=recording.replace("2400,5280", "2400,20000001"))
+    report("configuration_first", "the configuration is refused before the data are looked at",
+           cfg="c.cfg", data="absent.dat", c_cfg=recording.replace("1999", "1991"))
     report("no_data", "the data aren't there", data="absent.dat")
     return group.count
 
@@ -202,14 +270,11 @@ def others():
     for lamp in ("230/50", "120/60"):
         for rate in ("", " 2400", " 4800"):
             group.case((lamp.replace("/", "_") + rate).replace(" ", "_at_"), "the filter of a lamp", "tables " + lamp + rate)
-    for name, words in (("no_lamp", "tables"), ("other_lamp", "tables 230/60"), ("other_rate", "tables 230/50 9600"), ("long", "tables 230/50 2400 1")):
+    for name, words in (("no_lamp", "tables"), ("other_lamp", "tables 230/60"), ("other_rate", "tables 230/50 9600"),
+                        ("long", "tables 230/50 2400 1")):
         group.case(name, "words that no command has", words)
     usage = Group("usage")
-    for name, words in (("unknown", "reports"), ("capital", "Check c.cfg d.dat"), ("check_short", "check c.cfg"), ("check_long", "check c.cfg d.dat 1"),
-                        ("same_names", "check c.cfg c.cfg"), ("channel_0", "levels c.cfg d.dat 0 230000 0"), ("channel_257", "levels c.cfg d.dat 257 230000 0"),
-                        ("nominal", "levels c.cfg d.dat 1 999 0"), ("uncertainty", "levels c.cfg d.dat 1 1000 10001"), ("sign", "levels c.cfg d.dat +1 230000 0"),
-                        ("eleven_digits", "levels c.cfg d.dat 1 00000230000 0"), ("no_workers", "report j.toml c.cfg d.dat"),
-                        ("workers_0", "report j.toml c.cfg d.dat 0"), ("workers_17", "report j.toml c.cfg d.dat 17"), ("job_and_data", "report a c.cfg a 1")):
+    for name, words in USAGE:
         usage.case(name, "words that no command has", words)
     return group.count + usage.count
 

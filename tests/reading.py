@@ -19,7 +19,8 @@ NAME = re.compile(r"(?<![\w.◌'])[A-Za-z_][\w']*(?:-[\w']+)*")
 USE = re.compile(r"^\s*(?:ghost )?(?:pub )?use ([\w.]+?)(?:\.\{([^}]*)\})?;?$", re.M)
 OPERATOR = re.compile(r"(?<=[\s(])[^\s\w(){}.,;:]+[^\s(){}.,;:]*(?=[\s)])")
 FIRST = re.compile(r"^(?:(?:(?:abbrev|unfoldable|opaque|pub|record|data) )+([\w'-]+|◌\S+)|([\w'-]+) :)")
-ROOTS = (("flk_top/src/lib.rt", "pub fn run", "^{"), ("flk_io/src/outside.rt", "pub trait Shelf", "\\Z"), ("flk_phase/src/workers.rt", "pub trait Gate", "^}"))
+ROOTS = (("flk_top/src/lib.rt", "pub fn run", "^{"), ("flk_io/src/outside.rt", "pub trait Shelf", "\\Z"),
+         ("flk_phase/src/workers.rt", "pub trait Gate", "^}"))
 
 
 def read(path):

@@ -5,8 +5,8 @@
     python3 tests/refused_memory.py PROGRAM WORD ..         the words of any command, in the folder of its files
 
 The program must then answer 6 and print nothing, or 4 and `fault read` where the memory was for a file's name, or answer as with ample memory.
-What it appended, where the command appends, must be a front of what it appends with ample memory. `cc` compiles the refusals. Ends with status 1 where
-an answer is another one. Prints a table of counts."""
+What it appended, where the command appends, must be a front of what it appends with ample memory. `cc` compiles the refusals. Prints a
+table of counts, and ends with status 1 where an answer is another one."""
 import os
 import shutil
 import subprocess
