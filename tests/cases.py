@@ -4,8 +4,8 @@
     python3 tests/cases.py PROGRAM [FOLDER ..]
 
 A case is a folder with a file `args` (one word a line), the files that these name, `expect.out` (what the program prints) and
-`expect.status`. Its file `note` says what it shows. Where there is a folder `expect.files`, the program must have written these files. The
-program runs in a copy of that folder, and of the folder `common` beside it. Prints each difference, and ends with status 1 where there is
+`expect.status`. Its file `note` says what it shows. Where there is a folder `expect.files`, the program must have written these files, and no
+others. The program runs in a copy of that folder, and of the folder `common` beside it. Prints each difference, and ends with status 1 where there is
 one."""
 import os
 import shlex
@@ -32,9 +32,10 @@ def difference(program, case):
         if os.path.isdir(common):
             os.symlink(common, os.path.join(folder, "common"))
         run = subprocess.run(program + words, cwd=work, stdin=subprocess.DEVNULL, capture_output=True, timeout=120)
-        for name in sorted(os.listdir(files)) if os.path.isdir(files) else ():
+        wanted = set(os.listdir(files)) if os.path.isdir(files) else set()
+        for name in sorted(wanted | set(os.listdir(work)) - set(os.listdir(case))):
             made = os.path.join(work, name)
-            if not os.path.exists(made) or read(made) != read(os.path.join(files, name)):
+            if name not in wanted or not os.path.exists(made) or read(made) != read(os.path.join(files, name)):
                 return "the file %s is another one" % name
     out, status = read(os.path.join(case, "expect.out")), int(read(os.path.join(case, "expect.status")))
     if (run.stdout, run.returncode, run.stderr) == (out, status, b""):
