@@ -39,10 +39,14 @@ mod reply;
 mod report;
 #[cfg(test)]
 mod report_tests;
+#[cfg(test)]
+mod streaming_tests;
 mod tables;
 #[cfg(test)]
 mod tests;
 mod text;
+#[cfg(test)]
+mod width_tests;
 
 use crate::answer::answer;
 use flk_io::{Shelf, Sink, Words, write_all};

@@ -15,7 +15,7 @@ const JOB: &str =
 const SHORT: &str = "run_in_s = 0\ninterval_s = 1\n";
 
 // A job of one interval of a second, with one part of its text replaced by another.
-fn short_job(alloc: Global, old: &str, new: &str) -> Result<String, OutOfMemory> {
+pub fn short_job(alloc: Global, old: &str, new: &str) -> Result<String, OutOfMemory> {
     let mut whole = String::from_str(alloc, JOB)?;
     whole.push_str(SHORT)?;
     let mut text = String::new(alloc);
@@ -28,7 +28,7 @@ fn short_job(alloc: Global, old: &str, new: &str) -> Result<String, OutOfMemory>
 }
 
 // The job under J, the configuration under C, and the data under D.
-fn shelf_of(
+pub fn shelf_of(
     alloc: Global,
     job: &str,
     configuration: &str,
@@ -42,7 +42,7 @@ fn shelf_of(
 }
 
 // The status and the text of these words.
-fn answer_of<R: Threads + Sync>(
+pub fn answer_of<R: Threads + Sync>(
     rt: &R,
     alloc: Global,
     shelf: &mut MemShelf,
@@ -183,6 +183,7 @@ fn a_voltage_that_fails(rt: HostRuntime) -> Result<(), Fail> {
         "\nhalf-periods 35999\n",
         "\ndc 1.000000000 to 1.000000000 limit 0.033000000 fail\n",
         "\nt 0 to 0 limit 50 pass\n",
+        "\npst 1 6.798988216 to 6.798988222 limit 1.000000000 fail\n",
         "\nplt none\nverdict fail\n",
     ] {
         assert!(rt; text.contains(line), "{line}");
@@ -251,6 +252,10 @@ fn each_fault_of_a_match(rt: HostRuntime) -> Result<(), Fail> {
     let alloc = rt.alloc();
     let four = varied(alloc, FOUR, FOUR_CHANNELS)?;
     let one = varied(alloc, "", "")?;
+    let scale = varied(alloc, ",0.01,", ",10000.5,")?;
+    let long = varied(alloc, "2400,4800", "2400,20000001")?;
+    let long_at_4800 = varied(alloc, "2400,4800", "4800,40000001")?;
+    let short = short_job(alloc, "", "")?;
     let standard = short_job(alloc, SHORT, "")?;
     let seven = short_job(alloc, "[1]", "[7]")?;
     let current = short_job(alloc, "[1]", "[1, 4]")?;
@@ -258,8 +263,11 @@ fn each_fault_of_a_match(rt: HostRuntime) -> Result<(), Fail> {
     for (job, configuration, fault) in [
         (&seven, &four, "fault match 1 7 4\n"),
         (&current, &four, "fault match 2 4 0\n"),
+        (&short, &scale, "fault match 3 1 0\n"),
         (&lamp, &one, "fault match 4 60 50\n"),
         (&standard, &one, "fault match 5 1584000 4800\n"),
+        (&short, &long, "fault match 6 20000000 20000001\n"),
+        (&short, &long_at_4800, "fault match 6 40000000 40000001\n"),
     ] {
         assert!(rt;
             is_refused(&rt, alloc, job.as_str(), configuration.as_str(), b"", fault)?,
