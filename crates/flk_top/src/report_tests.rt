@@ -355,6 +355,28 @@ fn the_first_fault_of_the_data(rt: HostRuntime) -> Result<(), Fail> {
     Ok(())
 }
 
+// The last record lacks a byte.
+#[test]
+fn a_record_that_is_cut_off(rt: HostRuntime) -> Result<(), Fail> {
+    let alloc = rt.alloc();
+    let job = short_job(alloc, "", "")?;
+    let configuration = varied(alloc, "", "")?;
+    let mut data = square_wave(alloc)?;
+    let _ = data.pop();
+    let fault = "fault data 4800 0 5\n";
+    assert!(rt;
+        is_refused(
+            &rt,
+            alloc,
+            job.as_str(),
+            configuration.as_str(),
+            &data,
+            fault
+        )?
+    );
+    Ok(())
+}
+
 // ---- workers, and failures
 
 // Holds each of two phases until the other was entered.
