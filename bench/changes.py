@@ -1,5 +1,5 @@
 #!/usr/bin/env python3
-"""Times `changes` of the crate flk_change beside a plain Rust program of the same integer arithmetic.
+"""Times `Steady::push` and `changes` of the crate flk_change beside a plain Rust program of the same integer arithmetic.
 
     bench/changes.py [HALF_PERIODS] [RUNS]
 
@@ -7,10 +7,10 @@ Builds a small program over the crate in a temporary folder by `rt run`, which p
 half-periods (2,000,000 where nothing is said) of a window of 100, as intervals of 20 billionths: levels from 94 to 102 percent of
 nominal, each over 1000 half-periods and one in four of them with swings of 1 and 2 percent, and a noise of 0.1 percent. This is done
 once without doubt and once with six Doubtful flags, in six windows whose first and last value are about 4,000,000 billionths apart. Both
-programs find the flags by their own steps, and read the clock of the processor time that the process has used before and after the one
-call that is timed: `changes`, and the function of the plain program that does the same. So the time is that of the call alone, and other
-work on the machine counts little. The script runs both programs RUNS times (5) in turn, compares what they print, and prints for each
-the least time, and the ratio."""
+programs read the clock of the processor time that the process has used before and after what is timed: finding the flags, by a
+`Steady::push` for each half-period, and the one call of `changes`; and what the plain program does for the same. So the time is that of the
+calls alone, and other work on the machine counts little. The script runs both programs RUNS times (5) in turn, compares what they print,
+and prints for each the least time, and the ratio."""
 import sys
 import tempfile
 
@@ -85,17 +85,21 @@ fn halves(alloc: Global, count: u32, doubt: bool) -> Result<Vec<Interval>, OutOf
     Ok(halves)
 }
 
-// The flags of the half-periods, what `changes` answers for them and how long it takes; None where one is out of range.
-fn timed(
-    rt: &HostRuntime,
-    halves: &[Interval],
-    window: usize,
-) -> io::Result<Option<(ChangeSummary, Duration)>> {
+// What `changes` answers for the half-periods, how long finding their flags takes, and how long `changes`.
+struct Timed {
+    summary: ChangeSummary,
+    flags: Duration,
+    changes: Duration,
+}
+
+// None where a half-period is out of range.
+fn timed(rt: &HostRuntime, halves: &[Interval], window: usize) -> io::Result<Option<Timed>> {
     if window < 1 || 240 < window || 4_294_967_295 <= halves.len() {
         return Ok(None);
     }
     let mut steady = Steady::new(rt.alloc(), window)?;
     let mut flags: Vec<Flag> = Vec::new(rt.alloc());
+    let begin = rt.process_cpu_time()?;
     for half in halves {
         if half.lo < 0 || 10_000_000_000 < half.hi {
             return Ok(None);
@@ -104,21 +108,26 @@ fn timed(
     }
     let start = rt.process_cpu_time()?;
     let summary = changes(halves, &flags, window);
-    let time = rt.process_cpu_time()?.saturating_sub(start);
-    Ok(Some((summary, time)))
+    let end = rt.process_cpu_time()?;
+    Ok(Some(Timed {
+        summary,
+        flags: start.saturating_sub(begin),
+        changes: end.saturating_sub(start),
+    }))
 }
 
 fn report(rt: &HostRuntime, count: u32, window: usize, doubt: bool) -> io::Result<()> {
     let halves = halves(rt.alloc(), count, doubt)?;
-    let Some((s, time)) = timed(rt, &halves, window)? else {
+    let Some(t) = timed(rt, &halves, window)? else {
         return Ok(());
     };
+    let s = t.summary;
     println!(rt;
         "dc {} {} dmax {} {}",
         s.dc.lo, s.dc.hi, s.dmax.lo, s.dmax.hi
     )?;
     println!(rt; "t {} {} doubtful {}", s.t.lo, s.t.hi, s.doubtful)?;
-    println!(rt; "nanoseconds {}", time.as_nanos())?;
+    println!(rt; "nanoseconds {} {}", t.flags.as_nanos(), t.changes.as_nanos())?;
     Ok(())
 }
 
@@ -140,7 +149,7 @@ fn main(rt: HostRuntime) -> io::Result<()> {
 
 INVARIANTS = """use Rattle.std.proofs.Common.{◌≡◌, take}
 use Rattle.std.specs.List.{All}
-use Rattle.flk_change.specs.Values.{IsInRange}
+use Rattle.flk_num.specs.Values.{IsHalfPeriodRange}
 use Rattle.flk_change.specs.Steady.{Stands, AreFlags, taken}
 use Rattle.bench_changes.proofs.timed.Given as goal
 
@@ -150,7 +159,7 @@ invariant-loop-half l = record {
   taken : taken l.steady ≡ l.half-index;
   stands : Stands l.steady l.fn.window (take l.half-index l.halves);
   flags : AreFlags l.fn.window (take l.half-index l.halves) l.flags.items;
-  range : All IsInRange (take l.half-index l.halves);
+  range : All IsHalfPeriodRange (take l.half-index l.halves);
 }
 """
 
@@ -160,7 +169,7 @@ use Rattle.std.proofs.lemmas.Int.{ints}
 use Rattle.std.proofs.lemmas.List.{take_more, take_all}
 use Rattle.std.proofs.lemmas.List.Elements.{All-nil, All-push}
 use Rattle.flk_num.specs.declared.interval.Interval.{Interval}
-use Rattle.flk_change.specs.Values.{IsInRange}
+use Rattle.flk_num.specs.Values.{IsHalfPeriodRange}
 use Rattle.flk_change.specs.Steady.{AreFlags}
 use Rattle.flk_change.proofs.FlagLemmas.{flags_none}
 use Rattle.bench_changes.proofs.timed.Goals as goal
@@ -170,7 +179,7 @@ loop-half-init c = record {
   taken = c.in_ok-steady.ensures.taken;
   stands = c.in_ok-steady.ensures.stands;
   flags = rw c.new-flags.ensures.items (flags_none c.args.window);
-  range = All-nil IsInRange;
+  range = All-nil IsHalfPeriodRange;
 }
 
 pub loop-half-preserved : goal.loop-half-preserved
@@ -186,13 +195,13 @@ loop-half-preserved c =
       taken = omega (arith, c.push.ensures.taken, inv.taken);
       stands = rw more (c.push.ensures.stands window front inv.stands);
       flags = rw (more, c.in_ok-push.ensures.items) (c.push.ensures.flags window front c.loop-half.flags.items inv.stands inv.flags);
-      range = rw more (All-push IsInRange front v inv.range (record { low = omega (arith, ints, c.if-half-lt0.false); high = omega (arith, ints, c.if-half-gt10000000000.false) }));
+      range = rw more (All-push IsHalfPeriodRange front v inv.range (record { low = omega (arith, ints, c.if-half-lt0.false); high = omega (arith, ints, c.if-half-gt10000000000.false) }));
     }
 
 pub changes-summary-requires-clause-in_range : goal.changes-summary-requires-clause-in_range
 changes-summary-requires-clause-in_range c =
     let whole = take_all c.loop-half.half-index c.args.halves.now c.loop-half-test.false in
-    subst (All IsInRange) whole c.loop-half.invariant.range
+    subst (All IsHalfPeriodRange) whole c.loop-half.invariant.range
 
 pub changes-summary-requires-clause-flags : goal.changes-summary-requires-clause-flags
 changes-summary-requires-clause-flags c =
@@ -212,9 +221,9 @@ def built(folder):
 
 
 def read(text):
-    """What a program prints of the changes, and the seconds of both calls."""
+    """What a program prints of the changes, and the seconds for the flags and for `changes`, without doubt and with it."""
     lines = text.decode().split("\n")
-    times = [int(line.split()[1]) / 1e9 for line in lines if line.startswith("nanoseconds")]
+    times = [int(word) / 1e9 for line in lines if line.startswith("nanoseconds") for word in line.split()[1:]]
     return [line for line in lines if not line.startswith("nanoseconds")], times
 
 
@@ -234,10 +243,12 @@ def main():
         if len(texts) != 1:
             sys.exit("the two programs print different texts: %s" % texts)
         print("%d half-periods, best of %d runs" % (count, runs))
-        for name in both:
-            print("%-10s no doubt %8.4f s   six doubtful flags %7.3f s" % (name, *best[name]))
-        ratios = [a / b for a, b in zip(*best.values())]
-        print("ratio      no doubt %8.2f     six doubtful flags %7.2f" % tuple(ratios))
+        for name, (flags, calm, more, doubt) in best.items():
+            print("%-10s flags %6.1f ns a half-period   changes: no doubt %8.4f s   six doubtful flags %7.3f s"
+                  % (name, min(flags, more) / count * 1e9, calm, doubt))
+        (f, a, g, b), (p, x, q, y) = best.values()
+        print("ratio      flags %6.2f                    changes: no doubt %8.2f     six doubtful flags %7.2f"
+              % (min(f, g) / min(p, q), a / x, b / y))
 
 
 if __name__ == "__main__":

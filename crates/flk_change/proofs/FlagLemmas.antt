@@ -1,11 +1,10 @@
--- Flags: what the extremes of a window tell, what the newest half-periods are, and that flags stay as the half-periods go on.
-use Rattle.std.proofs.Common.{◌≡◌, inl, inr, ℕ, ◌+◌, ◌-◌, ◌<◌, ◌≤◌, List, [], ◌∷◌, ◌++◌, length, take, drop, get_or, ℤ, pos, ◌-ℤ◌, ◌<ℤ◌, ◌≤ℤ◌, refl, sym, ap, ◌∙◌, arith, length-append, length-drop, ⊎_elim}
-use Rattle.std.specs.List.{All, Contains}
+-- Flags: what the extremes of a window tell, and that flags stay as the half-periods go on.
+use Rattle.std.proofs.Common.{◌≡◌, ℕ, ◌+◌, ◌-◌, ◌<◌, ◌≤◌, List, [], ◌∷◌, ◌++◌, length, take, drop, get_or, ℤ, pos, ◌-ℤ◌, ◌<ℤ◌, ◌≤ℤ◌, refl, sym, ap, ◌∙◌, arith, length-append, length-drop, ⊎_elim}
 use Rattle.std.specs.Prelude.{◌↔◌}
 use Rattle.std.proofs.lemmas.Int.{ints, by_lt_z}
 use Rattle.std.proofs.lemmas.Bool.{cases_lt}
-use Rattle.std.proofs.lemmas.List.{take_all, drop-append-le, drop-drop, get_or_append_left, get_or_push, length-map}
-use Rattle.std.proofs.lemmas.List.Elements.{All-contains, Contains-push}
+use Rattle.std.proofs.lemmas.List.{take_all, get_or_append_left, get_or_push, length-map}
+use Rattle.std.proofs.lemmas.List.Elements.{All-contains}
 use Rattle.circular_buffer.specs.Buffer.{keep_last}
 use Rattle.flk_exact.specs.Extreme.{IsLeast, IsGreatest}
 use Rattle.flk_exact.proofs.ExtremeLemmas.{least_exists, greatest_exists}
@@ -15,44 +14,12 @@ use Rattle.flk_change.specs.declared.flag.Flag.{Flag}
 use Rattle.flk_change.specs.declared.flag.Flag.TheVariants.{Early, Sure, Not, Doubtful}
 use Rattle.flk_change.specs.declared.extremes.Extremes.{Extremes}
 use Rattle.flk_num.specs.Interval.{lows, highs}
-use Rattle.flk_num.specs.Values.{IsHalfPeriodRange}
 use Rattle.flk_change.specs.Steady.{window_at, AreSurelyClose, AreSurelyApart, IsFlag, AreFlags}
-use Rattle.flk_change.specs.Extremes.{IsFlagOfExtremes, AreSmall, least_low, greatest_low, least_high, greatest_high}
+use Rattle.flk_change.specs.Extremes.{AreExtremes, IsFlagOfExtremes}
 use Rattle.flk_change.proofs.LevelLemmas.{length-window_at}
-use Rattle.flk_change.proofs.SumLemmas.{lows-natural, lows-small, highs-natural, highs-small}
-use Rattle.flk_change.proofs.ExtremeLemmas.{least_low_is, greatest_low_is, least_high_is, greatest_high_is, low_there, high_there, low_owner, high_owner}
+use Rattle.flk_change.proofs.ExtremeLemmas.{low_there, high_there, low_owner, high_owner}
 
 -- ---- a whole window
-
-pub record AreExtremes (halves : List Interval) (e : Extremes) : Type 0 where
-  pub least_low : IsLeast (lows halves) e.least_low
-  pub greatest_low : IsGreatest (lows halves) e.greatest_low
-  pub least_high : IsLeast (highs halves) e.least_high
-  pub greatest_high : IsGreatest (highs halves) e.greatest_high
-
-pub extremes_are : (halves : List Interval) (v : Interval) (e : Extremes) → e.least_low ≡ least_low v.lo halves → e.greatest_low ≡ greatest_low v.lo halves → e.least_high ≡ least_high v.hi halves → e.greatest_high ≡ greatest_high v.hi halves
-    → Contains halves v → AreExtremes halves e
-extremes_are halves v e a b c d there = record {
-  least_low = least_low_is halves v e.least_low a there;
-  greatest_low = greatest_low_is halves v e.greatest_low b there;
-  least_high = least_high_is halves v e.least_high c there;
-  greatest_high = greatest_high_is halves v e.greatest_high d there;
-}
-
-pub extremes_small : (halves : List Interval) (e : Extremes) → All IsHalfPeriodRange halves → AreExtremes halves e → AreSmall e
-extremes_small halves e range h =
-    let low = lows-natural halves range in
-    let lows_small = lows-small halves range in
-    let high = highs-natural halves range in
-    let highs_small = highs-small halves range in
-    let natural : ℤ → Type 0 = λ x. pos 0 ≤ℤ x in
-    let small : ℤ → Type 0 = λ x. x ≤ℤ pos 10000000000 in
-    record {
-      least_low = (All-contains natural (lows halves) e.least_low low h.least_low.among, All-contains small (lows halves) e.least_low lows_small h.least_low.among);
-      greatest_low = (All-contains natural (lows halves) e.greatest_low low h.greatest_low.among, All-contains small (lows halves) e.greatest_low lows_small h.greatest_low.among);
-      least_high = (All-contains natural (highs halves) e.least_high high h.least_high.among, All-contains small (highs halves) e.least_high highs_small h.least_high.among);
-      greatest_high = (All-contains natural (highs halves) e.greatest_high high h.greatest_high.among, All-contains small (highs halves) e.greatest_high highs_small h.greatest_high.among);
-    }
 
 -- certainty by the ends
 pub close_by_ends : (halves : List Interval) (g l : ℤ) → IsGreatest (highs halves) g → IsLeast (lows halves) l → AreSurelyClose halves ↔ ((g -ℤ l) ≤ℤ pos 4000000)
@@ -136,34 +103,6 @@ pub newest_window : {A : Type 0} (window j : ℕ) (xs : List A) → j ≡ length
 newest_window window j xs e =
     let whole : take (j - (j - window)) (drop (j - window) xs) ≡ drop (j - window) xs = take_all (j - (j - window)) (drop (j - window) xs) (omega (arith, length-drop (j - window) xs)) in
     whole ∙ ap (λ (k : ℕ). drop (k - window) xs) e
-
-pub newest_push : {A : Type 0} (window : ℕ) (xs : List A) (x : A) → keep_last window (keep_last window xs ++ x ∷ []) ≡ keep_last window (xs ++ x ∷ [])
-newest_push window xs x = elim (cases_lt window (length xs)) [
-  | inl more ↦ (
-      let a = length xs - window in
-      let n = length-append (drop a xs) (x ∷ []) in
-      let m = length-append xs (x ∷ []) in
-      let d = length-drop a xs in
-      let one : length (drop a xs ++ x ∷ []) - window ≡ 1 = omega arith in
-      let next : length (xs ++ x ∷ []) - window ≡ a + 1 = omega arith in
-      let front : drop a (xs ++ x ∷ []) ≡ drop a xs ++ x ∷ [] = drop-append-le a xs (x ∷ []) (omega arith) in
-      rw (one, next, ← front) (drop-drop 1 a (xs ++ x ∷ [])))
-  | inr few ↦ (let none : length xs - window ≡ 0 = omega arith in rw none refl)
-]
-
-pub newest_holds : {A : Type 0} (window : ℕ) (xs : List A) (x : A) → 0 < window → Contains (keep_last window (xs ++ x ∷ [])) x
-newest_holds window xs x some =
-    let front : drop (length (xs ++ x ∷ []) - window) (xs ++ x ∷ []) ≡ drop (length (xs ++ x ∷ []) - window) xs ++ x ∷ [] = drop-append-le (length (xs ++ x ∷ []) - window) xs (x ∷ []) (omega (arith, length-append xs (x ∷ []))) in
-    rw front (Contains-push (drop (length (xs ++ x ∷ []) - window) xs) x)
-
-pub newest_full : {A : Type 0} (window : ℕ) (xs : List A) → length (keep_last window xs) ≡ window → window ≤ length xs
-newest_full window xs e = omega (arith, e, length-drop (length xs - window) xs)
-
-pub newest_early : {A : Type 0} (window : ℕ) (xs : List A) → (length (keep_last window xs) ≡ window → ⊥) → length xs < window
-newest_early window xs n = elim (cases_lt (length xs) window) [
-  | inl less ↦ less
-  | inr most ↦ absurd (n (omega (arith, length-drop (length xs - window) xs)))
-]
 
 -- ---- one more half-period
 

@@ -8,6 +8,8 @@ pub mod GivesLemmas
 pub mod PassLemmas
 pub mod ChoiceLemmas
 pub mod HullLemmas
+pub mod CandidateLemmas
+pub mod StandsLemmas
 pub mod ExtremeLemmas
 pub mod WideLemmas
 pub mod FlagLemmas

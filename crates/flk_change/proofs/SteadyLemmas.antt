@@ -1,64 +1,67 @@
 -- The state of `Steady`: what one half-period more does to it.
-use Rattle.std.proofs.Common.{◌≡◌, ℕ, ◌+◌, ◌<◌, List, [], ◌∷◌, ◌++◌, length, refl, ◌-◌, sym, ap, ◌∙◌, subst, arith, length-append}
-use Rattle.std.specs.List.{All, Contains}
-use Rattle.std.proofs.lemmas.List.Elements.{All-push, All-drop}
-use Rattle.circular_buffer.specs.Buffer.{Buffer, buffer, keep_last}
+use Rattle.std.proofs.Common.{◌≡◌, ℕ, ◌+◌, ◌≤◌, List, [], ◌∷◌, ◌++◌, length, map, ℤ, pos, neg_ℤ, ◌-ℤ◌, refl, sym, ◌∙◌, subst, arith, length-append}
+use Rattle.std.proofs.lemmas.Int.{ints}
+use Rattle.std.proofs.lemmas.List.{map-append}
+use Rattle.circular_buffer.specs.Buffer.{keep_last}
 use Rattle.flk_num.specs.declared.interval.Interval.{Interval}
-use Rattle.flk_change.specs.declared.flag.Flag.{Flag}
-use Rattle.flk_change.specs.declared.flag.Flag.TheVariants.{Early}
+use Rattle.flk_change.specs.declared.extreme.Extreme.{Extreme}
 use Rattle.flk_change.specs.declared.extremes.Extremes.{Extremes}
+use Rattle.flk_change.specs.declared.flag.Flag.{Flag}
 use Rattle.flk_change.specs.declared.steady.Steady.{Steady}
-use Rattle.flk_num.specs.Values.{IsHalfPeriodRange}
+use Rattle.flk_change.specs.Extreme.{Stands as ExtremeStands}
+use Rattle.flk_change.specs.Extremes.{AreExtremes, IsFlagOfExtremes}
 use Rattle.flk_change.specs.Steady.{IsFlag, Stands}
-use Rattle.flk_change.specs.Extremes.{IsFlagOfExtremes, least_low, greatest_low, least_high, greatest_high}
-use Rattle.flk_change.proofs.FlagLemmas.{AreExtremes, extremes_are, flag_of_extremes, newest_push, newest_window, newest_holds, newest_full, newest_early}
+use Rattle.flk_change.proofs.FlagLemmas.{flag_of_extremes, newest_window}
 
--- the ring has taken one half-period more
-pub record IsPushed (old new : Buffer Interval) (half : Interval) : Type 0 where
-  pub is : new ≡ buffer (keep_last old.capacity (old.items ++ half ∷ [])) old.capacity
+-- one of the four has taken one end more
+abbrev pub TakesValue : Extreme → Extreme → ℤ → Type 0
+TakesValue old new v = (window : ℕ) (values : List ℤ) → ExtremeStands old window values → ExtremeStands new window (values ++ v ∷ [])
 
-pub pushed_items : (old new : Buffer Interval) (half : Interval) → IsPushed old new half → new.items ≡ keep_last old.capacity (old.items ++ half ∷ [])
-pushed_items old new half h = ap (λ (b : Buffer Interval). b.items) h.is
+takes_end : (old new : Extreme) (end : Interval → ℤ) (half : Interval) → TakesValue old new (end half) → (window : ℕ) (halves : List Interval)
+    → ExtremeStands old window (map end halves) → ExtremeStands new window (map end (halves ++ half ∷ []))
+takes_end old new end half takes window halves h =
+    rw (map-append end halves (half ∷ [])) (takes window (map end halves) h)
 
--- the ring holds the newest of these half-periods
-pub record IsNewest (ring : Buffer Interval) (window : ℕ) (halves : List Interval) : Type 0 where
-  pub items : ring.items ≡ keep_last window halves
-  pub capacity : ring.capacity ≡ window
+takes_turned : (old new : Extreme) (end : Interval → ℤ) (half : Interval) → TakesValue old new (neg_ℤ (end half)) → (window : ℕ) (halves : List Interval)
+    → ExtremeStands old window (map neg_ℤ (map end halves)) → ExtremeStands new window (map neg_ℤ (map end (halves ++ half ∷ [])))
+takes_turned old new end half takes window halves h =
+    rw (map-append end halves (half ∷ []), map-append neg_ℤ (map end halves) (end half ∷ [])) (takes window (map neg_ℤ (map end halves)) h)
 
-pub newest_after : (s : Steady) (ring : Buffer Interval) (half : Interval) (window : ℕ) (halves : List Interval) → IsPushed s.newest ring half → Stands s window halves → IsNewest ring window (halves ++ half ∷ [])
-newest_after s ring half window halves pushed h =
-    let same : keep_last s.newest.capacity (s.newest.items ++ half ∷ []) ≡ keep_last window (keep_last window halves ++ half ∷ []) = rw (h.same_window, h.newest) refl in
+pub same_value : (old new : Extreme) (v x : ℤ) → TakesValue old new v → v ≡ x → TakesValue old new x
+same_value old new v x takes is = subst (TakesValue old new) is takes
+
+pub turned : (old new : Extreme) (v x : ℤ) → TakesValue old new v → v ≡ pos 0 -ℤ x → TakesValue old new (neg_ℤ x)
+turned old new v x takes is =
+    same_value old new v (neg_ℤ x) takes (omega (arith, ints, is))
+
+pub record TakesHalf (s t : Steady) (half : Interval) : Type 0 where
+  pub window : t.window ≡ s.window
+  pub count : t.count ≡ s.count + 1
+  pub least_low : TakesValue s.least_low t.least_low (neg_ℤ half.lo)
+  pub greatest_low : TakesValue s.greatest_low t.greatest_low half.lo
+  pub least_high : TakesValue s.least_high t.least_high (neg_ℤ half.hi)
+  pub greatest_high : TakesValue s.greatest_high t.greatest_high half.hi
+
+pub stands_push : (s t : Steady) (half : Interval) → TakesHalf s t half → (window : ℕ) (halves : List Interval) → Stands s window halves → Stands t window (halves ++ half ∷ [])
+stands_push s t half takes window halves h =
+    let low : Interval → ℤ = λ v. v.lo in
+    let high : Interval → ℤ = λ v. v.hi in
     record {
-      items = pushed_items s.newest ring half pushed ∙ same ∙ newest_push window halves half;
-      capacity = ap (λ (b : Buffer Interval). b.capacity) pushed.is ∙ h.same_window;
+      same_window = takes.window ∙ h.same_window;
+      count = omega (arith, takes.count, h.count, length-append halves (half ∷ []));
+      least_low = takes_turned s.least_low t.least_low low half takes.least_low window halves h.least_low;
+      greatest_low = takes_end s.greatest_low t.greatest_low low half takes.greatest_low window halves h.greatest_low;
+      least_high = takes_turned s.least_high t.least_high high half takes.least_high window halves h.least_high;
+      greatest_high = takes_end s.greatest_high t.greatest_high high half takes.greatest_high window halves h.greatest_high;
     }
 
-pub stands_push : (s t : Steady) (half : Interval) → IsPushed s.newest t.newest half → t.count ≡ s.count + 1 → (window : ℕ) (halves : List Interval) → Stands s window halves → Stands t window (halves ++ half ∷ [])
-stands_push s t half pushed count window halves h =
-    let ring = newest_after s t.newest half window halves pushed h in
-    record { same_window = ring.capacity; newest = ring.items; count = omega (arith, count, h.count, length-append halves (half ∷ [])) }
+-- the flag of a whole window
+pub late_flag : (window : ℕ) (halves : List Interval) (e : Extremes) (f : Flag) → window ≤ length halves → AreExtremes (keep_last window halves) e → IsFlagOfExtremes e f → IsFlag window halves (length halves) f
+late_flag window halves e f whole extremes is =
+    flag_of_extremes window halves (length halves) e f whole (subst (λ (xs : List Interval). AreExtremes xs e) (sym (newest_window window (length halves) halves refl)) extremes) is
 
--- a ring that is not full
-pub early_flag : (ring : Buffer Interval) (window : ℕ) (halves : List Interval) (half : Interval) → IsNewest ring window (halves ++ half ∷ []) → (length ring.items ≡ ring.capacity → ⊥) → IsFlag window (halves ++ half ∷ []) (length halves + 1) Early
-early_flag ring window halves half h few =
-    let less = newest_early window (halves ++ half ∷ []) (λ full. few (ap length h.items ∙ full ∙ sym h.capacity)) in
-    omega (arith, less, length-append halves (half ∷ []))
-
--- a full one
-pub late_flag : (ring : Buffer Interval) (window : ℕ) (halves : List Interval) (half : Interval) (e : Extremes) (f : Flag) → IsNewest ring window (halves ++ half ∷ []) → length ring.items ≡ ring.capacity
-    → AreExtremes ring.items e → IsFlagOfExtremes e f → IsFlag window (halves ++ half ∷ []) (length halves + 1) f
-late_flag ring window halves half e f h full extremes is =
-    let count : length halves + 1 ≡ length (halves ++ half ∷ []) = omega (arith, length-append halves (half ∷ [])) in
-    let whole = newest_full window (halves ++ half ∷ []) (sym (ap length h.items) ∙ full ∙ h.capacity) in
-    let part = newest_window window (length halves + 1) (halves ++ half ∷ []) count ∙ sym h.items in
-    flag_of_extremes window (halves ++ half ∷ []) (length halves + 1) e f (omega (arith, whole, count)) (subst (λ (xs : List Interval). AreExtremes xs e) (sym part) extremes) is
-
-pub pushed_extremes : (old new : Buffer Interval) (half : Interval) (e : Extremes) → IsPushed old new half → 0 < old.capacity
-    → e.least_low ≡ least_low half.lo new.items → e.greatest_low ≡ greatest_low half.lo new.items → e.least_high ≡ least_high half.hi new.items → e.greatest_high ≡ greatest_high half.hi new.items
-    → AreExtremes new.items e
-pushed_extremes old new half e pushed some a b c d =
-    extremes_are new.items half e a b c d (subst (λ (xs : List Interval). Contains xs half) (sym (pushed_items old new half pushed)) (newest_holds old.capacity old.items half some))
-
-pub pushed_range : (old new : Buffer Interval) (half : Interval) → IsPushed old new half → All IsHalfPeriodRange old.items → IsHalfPeriodRange half → All IsHalfPeriodRange new.items
-pushed_range old new half pushed range in' =
-    subst (All IsHalfPeriodRange) (sym (pushed_items old new half pushed)) (All-drop IsHalfPeriodRange (length (old.items ++ half ∷ []) - old.capacity) (old.items ++ half ∷ []) (All-push IsHalfPeriodRange old.items half range in'))
+-- and with the half-period that was taken last
+pub pushed_flag : (window : ℕ) (halves : List Interval) (half : Interval) (f : Flag) → IsFlag window (halves ++ half ∷ []) (length (halves ++ half ∷ [])) f → IsFlag window (halves ++ half ∷ []) (length halves + 1) f
+pushed_flag window halves half f is =
+    let count : length (halves ++ half ∷ []) ≡ length halves + 1 = omega (arith, length-append halves (half ∷ [])) in
+    subst (λ (n : ℕ). IsFlag window (halves ++ half ∷ []) n f) count is

@@ -1,5 +1,9 @@
+-- ---- what public contracts cite
+pub mod Extreme
 pub mod Steady
 pub mod Changes
 pub mod Resolutions
-pub mod Pass
+-- ---- what private ones cite besides
+pub mod Candidates
 pub mod Extremes
+pub mod Pass

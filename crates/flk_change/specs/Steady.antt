@@ -1,14 +1,15 @@
 -- Steady windows, and the flags that tell them over intervals. IEC 61000-3-3 speaks of a voltage change between times
 -- at which the voltage is steady for at least one second. The limit on the values of such a second is the project's
 -- own: 4,000,000 billionths of nominal between any two of them.
-use Rattle.std.specs.Prelude.{◌≡◌, ℕ, ◌+◌, ◌-◌, ◌<◌, ◌≤◌, List, length, slice_index_or, slice_range, ℤ, pos, ◌-ℤ◌, ◌<ℤ◌, ◌≤ℤ◌}
+use Rattle.std.specs.Prelude.{◌≡◌, ℕ, ◌+◌, ◌-◌, ◌<◌, ◌≤◌, List, length, map, slice_index_or, slice_range, ℤ, pos, neg_ℤ, ◌-ℤ◌, ◌<ℤ◌, ◌≤ℤ◌}
 use Rattle.std.specs.List.{Contains}
-use Rattle.circular_buffer.specs.Buffer.{keep_last}
 use Rattle.flk_exact.specs.Extreme.{IsLeast, IsGreatest}
 use Rattle.flk_num.specs.declared.interval.Interval.{Interval}
+use Rattle.flk_num.specs.Interval.{lows, highs}
 use Rattle.flk_change.specs.declared.flag.Flag.{Flag}
 use Rattle.flk_change.specs.declared.flag.Flag.TheVariants.{Early, Sure, Not, Doubtful}
 use Rattle.flk_change.specs.declared.steady.Steady.{Steady}
+use Rattle.flk_change.specs.Extreme.{Stands as ExtremeStands}
 
 -- The window that ends after the first j half-periods: the last `window` of them. (All of them where they are fewer.)
 abbrev pub window_at : {A : Type 0} → ℕ → List A → ℕ → List A
@@ -59,8 +60,12 @@ pub record AreFlags (window : ℕ) (halves : List Interval) (flags : List Flag) 
 abbrev pub taken : Steady → ℕ
 taken s = s.count
 
--- the state stands for these half-periods: it keeps the newest of them, and how many they are
+-- the state stands for these half-periods: it keeps the extremes of the ends of the newest of them, the least as the
+-- greatest with the signs turned, and how many they are
 pub record Stands (s : Steady) (window : ℕ) (halves : List Interval) : Type 0 where
-  pub same_window : s.newest.capacity ≡ window
-  pub newest : s.newest.items ≡ keep_last window halves
+  pub same_window : s.window ≡ window
   pub count : s.count ≡ length halves
+  pub least_low : ExtremeStands s.least_low window (map neg_ℤ (lows halves))
+  pub greatest_low : ExtremeStands s.greatest_low window (lows halves)
+  pub least_high : ExtremeStands s.least_high window (map neg_ℤ (highs halves))
+  pub greatest_high : ExtremeStands s.greatest_high window (highs halves)

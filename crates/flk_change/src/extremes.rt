@@ -1,9 +1,12 @@
-//! The least and the greatest ends of some half-periods.
+//! The least and the greatest ends of the half-periods of a window, and what they tell of it.
 
 ghost use Rattle.std.specs.Prelude.{◌≡◌};
-ghost use Rattle.std.specs.Int.{int_min, int_max};
+ghost use Rattle.flk_change.specs.Extremes.{IsFlagOfExtremes, AreSmall};
 
-use flk_num::Interval;
+use crate::flag::Flag;
+
+/// How far two values of a steady window may be apart, in billionths of nominal.
+const STEADY_LIMIT: i128 = 4_000_000;
 
 /// The least and the greatest of the lower ends, and of the upper ones.
 #[derive(Clone, Copy, Debug)]
@@ -14,32 +17,16 @@ pub(crate) struct Extremes {
     pub(crate) greatest_high: i128,
 }
 
-/// Those of one half-period.
-pub(crate) fn extremes_of(half: Interval) -> Extremes
-    ensures least_low { result.least_low ≡ half.lo }
-    ensures greatest_low { result.greatest_low ≡ half.lo }
-    ensures least_high { result.least_high ≡ half.hi }
-    ensures greatest_high { result.greatest_high ≡ half.hi }
+/// The flag of a whole window with these extremes, which are at most 10^10 in size.
+pub(crate) fn flag_of(extremes: Extremes) -> Flag
+    requires { AreSmall extremes }
+    ensures { IsFlagOfExtremes extremes result }
 {
-    Extremes {
-        least_low: half.lo,
-        greatest_low: half.lo,
-        least_high: half.hi,
-        greatest_high: half.hi,
+    if extremes.greatest_high - extremes.least_low <= STEADY_LIMIT {
+        return Flag::Sure;
     }
-}
-
-/// Those of one half-period more.
-pub(crate) fn with_half(extremes: Extremes, half: Interval) -> Extremes
-    ensures least_low { result.least_low ≡ int_min extremes.least_low half.lo }
-    ensures greatest_low { result.greatest_low ≡ int_max extremes.greatest_low half.lo }
-    ensures least_high { result.least_high ≡ int_min extremes.least_high half.hi }
-    ensures greatest_high { result.greatest_high ≡ int_max extremes.greatest_high half.hi }
-{
-    Extremes {
-        least_low: extremes.least_low.min(half.lo),
-        greatest_low: extremes.greatest_low.max(half.lo),
-        least_high: extremes.least_high.min(half.hi),
-        greatest_high: extremes.greatest_high.max(half.hi),
+    if extremes.greatest_low - extremes.least_high > STEADY_LIMIT {
+        return Flag::Not;
     }
+    Flag::Doubtful
 }

@@ -1,9 +1,9 @@
 //! Steady windows and voltage changes of IEC 61000-3-3, over half-periods whose values are known within intervals.
 //!
 //! [`Steady`] takes one half-period after the other and tells of the window that ends with each whether its voltage
-//! is steady ([`Flag`]). [`changes`] takes all half-periods with their flags, and answers dc, dmax and Tmax as
-//! intervals that hold these quantities for every list of exact values within the half-periods' intervals
-//! ([`ChangeSummary`]).
+//! is steady ([`Flag`]), by the extremes of the window, which it follows without a look at all of it ([`Extreme`]).
+//! [`changes`] takes all half-periods with their flags, and answers dc, dmax and Tmax as intervals that hold these
+//! quantities for every list of exact values within the half-periods' intervals ([`ChangeSummary`]).
 //!
 //! Where a window is steady for some values and not for others, its flag is Doubtful. With up to six such flags
 //! `changes` goes through every way to take them (`resolve`). One way is one pass over the half-periods (`pass`),
@@ -11,8 +11,10 @@
 //! six it answers wide intervals (`wide`). `docs/CHANGES_AND_DOUBT.md` has a picture.
 #![tactic(auto)]
 
+mod candidates;
 mod choice;
 mod ends;
+mod extreme;
 mod extremes;
 mod flag;
 mod laws;
@@ -26,6 +28,7 @@ mod swings;
 mod tests;
 mod wide;
 
+pub use extreme::Extreme;
 pub use flag::Flag;
 pub use laws::{
     certain_flags_hold_for_every_list, certainty_is_by_ends, close_where_spread_is_small,

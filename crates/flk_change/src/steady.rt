@@ -1,60 +1,37 @@
 //! Steady windows, one half-period after the other.
 
-ghost use Rattle.std.specs.Prelude.{◌≡◌, ℕ, ◌+◌, ◌-◌, ◌^◌, ◌<◌, ◌≤◌, [], ◌∷◌, ◌++◌, List, length, IfOk, All};
+ghost use Rattle.std.specs.Prelude.{◌≡◌, ℕ, ◌+◌, ◌-◌, ◌^◌, ◌<◌, ◌≤◌, [], ◌∷◌, ◌++◌, List, length, IfOk, IfSome};
 ghost use Rattle.flk_num.specs.declared.interval.Interval.{Interval as IntervalView};
 ghost use Rattle.flk_change.specs.declared.flag.Flag.{Flag as FlagView};
 ghost use Rattle.flk_num.specs.Values.{IsHalfPeriodRange};
-ghost use Rattle.flk_change.specs.Extremes.{IsFlagOfExtremes, AreSmall, least_low as least_low_of, greatest_low as greatest_low_of, least_high as least_high_of, greatest_high as greatest_high_of};
+ghost use Rattle.flk_change.specs.Extreme.{pushed};
 
 use crate::OutOfMemory;
-use crate::extremes::{Extremes, extremes_of, with_half};
+use crate::extreme::Extreme;
+use crate::extremes::{Extremes, flag_of};
 use crate::flag::Flag;
-use circular_buffer::HeapCircularBuffer;
 use flk_num::Interval;
 use std::alloc::Global;
 
-/// How far two values of a steady window may be apart, in billionths of nominal.
-const STEADY_LIMIT: i128 = 4_000_000;
-
-// The extremes of the half-periods of a ring, and of one half-period more.
-fn extremes_in(newest: &HeapCircularBuffer<Interval>, half: Interval) -> Extremes
-    ensures least_low { result.least_low ≡ least_low_of half.lo newest.now.items }
-    ensures greatest_low { result.greatest_low ≡ greatest_low_of half.lo newest.now.items }
-    ensures least_high { result.least_high ≡ least_high_of half.hi newest.now.items }
-    ensures greatest_high { result.greatest_high ≡ greatest_high_of half.hi newest.now.items }
-{
-    let mut extremes = extremes_of(half);
-    for v in newest.iter() {
-        extremes = with_half(extremes, *v);
-    }
-    extremes
-}
-
-// The flag of a whole window with these extremes, which are from 0 to 10^10.
-fn flag_of(extremes: Extremes) -> Flag
-    requires { AreSmall extremes }
-    ensures { IsFlagOfExtremes extremes result }
-{
-    if extremes.greatest_high - extremes.least_low <= STEADY_LIMIT {
-        return Flag::Sure;
-    }
-    if extremes.greatest_low - extremes.least_high > STEADY_LIMIT {
-        return Flag::Not;
-    }
-    Flag::Doubtful
-}
-
-/// The newest half-periods of one window, and how many came.
+/// What the newest half-periods of one window come to: the extremes of their ends, each without a look at all of them.
 #[derive(Drop)]
 pub struct Steady {
-    newest: HeapCircularBuffer<Interval>,
+    window: usize,
     count: u32,
-    ghost some: { 0 < newest.capacity },
-    ghost in_range: { All IsHalfPeriodRange newest.items },
+    // The least of some numbers is the greatest of them with their signs turned.
+    least_low: Extreme,
+    greatest_low: Extreme,
+    least_high: Extreme,
+    greatest_high: Extreme,
+    ghost least_low_counted: { pushed least_low ≡ count },
+    ghost greatest_low_counted: { pushed greatest_low ≡ count },
+    ghost least_high_counted: { pushed least_high ≡ count },
+    ghost greatest_high_counted: { pushed greatest_high ≡ count },
 }
 
 impl Steady {
     ghost use Rattle.flk_change.specs.Steady.{Stands, IsFlag, AreFlags, taken};
+    ghost use Rattle.flk_change.specs.Extremes.{AreExtremesOfWindow, AreSmall};
 
     /// For windows of so many half-periods, from 1 to 240. One second has 100 at 50 Hz and 120 at 60 Hz. The error
     /// comes only where no memory is found.
@@ -65,8 +42,12 @@ impl Steady {
         ensures taken { IfOk result (λ s. taken s ≡ 0) }
     {
         Ok(Steady {
-            newest: HeapCircularBuffer::with_capacity(alloc, window)?,
+            window,
             count: 0,
+            least_low: Extreme::new(alloc, window)?,
+            greatest_low: Extreme::new(alloc, window)?,
+            least_high: Extreme::new(alloc, window)?,
+            greatest_high: Extreme::new(alloc, window)?,
         })
     }
 
@@ -86,10 +67,38 @@ impl Steady {
             → AreFlags window (halves ++ half ∷ []) (flags ++ result ∷ []) }
     {
         self.count += 1;
-        self.newest.push_back(half);
-        if !self.newest.is_full() {
+        self.least_low.push(-half.lo);
+        self.greatest_low.push(half.lo);
+        self.least_high.push(-half.hi);
+        self.greatest_high.push(half.hi);
+        self.newest_flag()
+    }
+
+    // The flag of the window that ends with the newest half-period.
+    fn newest_flag(&self) -> Flag
+        ensures { (window : ℕ) (halves : List IntervalView) → Stands self.now window halves → 0 < length halves
+            → IsFlag window halves (length halves) result }
+    {
+        if (self.count as usize) < self.window {
             return Flag::Early;
         }
-        flag_of(extremes_in(&self.newest, half))
+        match self.extremes() {
+            Some(extremes) => flag_of(extremes),
+            None => Flag::Early,
+        }
+    }
+
+    // The extremes of the newest half-periods; None where none was taken.
+    fn extremes(&self) -> Option<Extremes>
+        ensures extremes { (window : ℕ) (halves : List IntervalView) → Stands self.now window halves
+            → AreExtremesOfWindow window halves result }
+        ensures small { IfSome result AreSmall }
+    {
+        Some(Extremes {
+            least_low: -self.least_low.greatest()?,
+            greatest_low: self.greatest_low.greatest()?,
+            least_high: -self.least_high.greatest()?,
+            greatest_high: self.greatest_high.greatest()?,
+        })
     }
 }

@@ -1,6 +1,6 @@
 //! Worked examples, at 50 Hz unless a test says otherwise. Values are in billionths of nominal.
 
-use crate::{ChangeSummary, Flag, OutOfMemory, Steady, changes};
+use crate::{ChangeSummary, Extreme, Flag, OutOfMemory, Steady, changes};
 use flk_num::Interval;
 use std::alloc::Global;
 use std::test::Fail;
@@ -99,6 +99,26 @@ fn more_windows_in_doubt_than_are_resolved(rt: HostRuntime) -> Result<(), Fail> 
 fn no_half_period(rt: HostRuntime) -> Result<(), Fail> {
     let none = between(0, 0);
     assert_eq!(rt; judged(rt.alloc(), &[], 120)?, summary(none, none, none, 0));
+    Ok(())
+}
+
+#[test]
+fn greatest_of_the_newest_three(rt: HostRuntime) -> Result<(), Fail> {
+    let mut extreme = Extreme::new(rt.alloc(), 3)?;
+    assert_eq!(rt; extreme.greatest(), None);
+    assert_eq!(rt; extreme.kept(), 0);
+    extreme.push(5);
+    extreme.push(3);
+    extreme.push(4);
+    assert_eq!(rt; extreme.greatest(), Some(5));
+    assert_eq!(rt; extreme.kept(), 2);
+    // 5 leaves the window, and the later of two equal values stays
+    extreme.push(4);
+    assert_eq!(rt; extreme.greatest(), Some(4));
+    assert_eq!(rt; extreme.kept(), 1);
+    extreme.push(1);
+    assert_eq!(rt; extreme.greatest(), Some(4));
+    assert_eq!(rt; extreme.kept(), 2);
     Ok(())
 }
 

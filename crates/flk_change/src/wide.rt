@@ -6,8 +6,7 @@ ghost use Rattle.flk_num.specs.Interval.{lows, highs};
 ghost use Rattle.flk_num.specs.Values.{IsHalfPeriodRange};
 ghost use Rattle.flk_change.specs.Resolutions.{AreWide};
 
-use crate::ends::{NOMINAL, distance};
-use crate::extremes::{extremes_of, with_half};
+use crate::ends::{NOMINAL, distance, hull};
 use crate::pass::Outcome;
 use flk_num::Interval;
 
@@ -17,14 +16,11 @@ fn span(halves: &[Interval]) -> Interval
     ensures low { IsLeast (lows halves.now) result.lo }
     ensures high { IsGreatest (highs halves.now) result.hi }
 {
-    let mut extremes = extremes_of(halves[0]);
+    let mut all = halves[0];
     for v in halves {
-        extremes = with_half(extremes, *v);
+        all = hull(all, *v);
     }
-    Interval {
-        lo: extremes.least_low,
-        hi: extremes.greatest_high,
-    }
+    all
 }
 
 /// Intervals from 0 that hold dc, dmax and Tmax whichever windows are steady.

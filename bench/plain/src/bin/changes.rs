@@ -1,9 +1,57 @@
 //! dc, dmax and Tmax of pseudo-random half-periods, in plain Rust with the same integer arithmetic: the yardstick of
 //! `bench/changes.py`. It takes the number of half-periods and that of a window, and prints the answers and the processor
-//! time of the function `changes`.
+//! time for the flags and of the function `changes`.
 
-use plain::changes::{changes, flag_of, Interval};
+use plain::changes::{changes, Flag, Interval};
+use std::collections::VecDeque;
 use std::env;
+
+const STEADY_LIMIT: i64 = 4_000_000;
+
+/// The greatest of the newest values, by those that are greater than every later one.
+struct Extreme {
+    kept: VecDeque<(usize, i64)>,
+}
+
+impl Extreme {
+    fn new(window: usize) -> Extreme {
+        Extreme { kept: VecDeque::with_capacity(window) }
+    }
+
+    /// Takes the value at a place, and answers the greatest of the values from `begin` to it.
+    fn push(&mut self, place: usize, begin: usize, value: i64) -> i64 {
+        if self.kept.front().is_some_and(|first| first.0 < begin) {
+            self.kept.pop_front();
+        }
+        while self.kept.back().is_some_and(|last| last.1 <= value) {
+            self.kept.pop_back();
+        }
+        self.kept.push_back((place, value));
+        self.kept[0].1
+    }
+}
+
+fn flags_of(halves: &[Interval], window: usize) -> Vec<Flag> {
+    let mut ends: [Extreme; 4] = std::array::from_fn(|_| Extreme::new(window));
+    let mut flags = Vec::new();
+    for (i, half) in halves.iter().enumerate() {
+        let begin = (i + 1).saturating_sub(window);
+        let least_low = -ends[0].push(i, begin, -half.lo);
+        let greatest_low = ends[1].push(i, begin, half.lo);
+        let least_high = -ends[2].push(i, begin, -half.hi);
+        let greatest_high = ends[3].push(i, begin, half.hi);
+        flags.push(if i + 1 < window {
+            Flag::Early
+        } else if greatest_high - least_low <= STEADY_LIMIT {
+            Flag::Sure
+        } else if greatest_low - least_high > STEADY_LIMIT {
+            Flag::Not
+        } else {
+            Flag::Doubtful
+        });
+    }
+    flags
+}
 
 fn next(state: u32) -> u32 {
     state.wrapping_mul(1_664_525).wrapping_add(1_013_904_223)
@@ -54,12 +102,13 @@ fn main() {
     let (count, window) = (words[0].parse().unwrap(), words[1].parse().unwrap());
     for doubt in [false, true] {
         let halves = half_periods(count, doubt);
-        let flags: Vec<_> = (0..halves.len()).map(|i| flag_of(&halves[..=i], window)).collect();
+        let begin = processor_time();
+        let flags = flags_of(&halves, window);
         let start = processor_time();
         let (o, doubtful) = changes(&halves, &flags, window);
-        let time = processor_time() - start;
+        let end = processor_time();
         println!("dc {} {} dmax {} {}", o.dc.lo, o.dc.hi, o.dmax.lo, o.dmax.hi);
         println!("t {} {} doubtful {doubtful}", o.t.lo, o.t.hi);
-        println!("nanoseconds {time}");
+        println!("nanoseconds {} {}", start - begin, end - start);
     }
 }
