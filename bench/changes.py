@@ -86,14 +86,15 @@ fn halves(alloc: Global, count: u32, doubt: bool) -> Result<Vec<Interval>, OutOf
 }
 
 // What `changes` answers for the half-periods, how long finding their flags takes, and how long `changes`.
-struct Timed {
+#[derive(Drop)]
+struct Times {
     summary: ChangeSummary,
     flags: Duration,
     changes: Duration,
 }
 
 // None where a half-period is out of range.
-fn timed(rt: &HostRuntime, halves: &[Interval], window: usize) -> io::Result<Option<Timed>> {
+fn timed(rt: &HostRuntime, halves: &[Interval], window: usize) -> io::Result<Option<Times>> {
     if window < 1 || 240 < window || 4_294_967_295 <= halves.len() {
         return Ok(None);
     }
@@ -109,7 +110,7 @@ fn timed(rt: &HostRuntime, halves: &[Interval], window: usize) -> io::Result<Opt
     let start = rt.process_cpu_time()?;
     let summary = changes(halves, &flags, window);
     let end = rt.process_cpu_time()?;
-    Ok(Some(Timed {
+    Ok(Some(Times {
         summary,
         flags: start.saturating_sub(begin),
         changes: end.saturating_sub(start),
