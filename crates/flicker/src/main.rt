@@ -37,8 +37,8 @@ fn words_of(rt: &HostRuntime, alloc: Global) -> io::Result<Words> {
     Ok(words)
 }
 
-// Runs the command that the words name, and ends with the status that the top call answers. All that is promised of a run holds of the number
-// with which the program ends.
+// Runs the command that the words name, and ends with the status that the top call answers. All that is promised of a
+// run holds of the number with which the program ends.
 fn exit_code_of<R: Threads + Sync, F: Shelf, K: Sink, G: Gate + Sync>(
     rt: &R,
     alloc: Global,

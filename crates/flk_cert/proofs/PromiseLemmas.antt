@@ -142,8 +142,8 @@ over_bound delta doubt g h s hs =
     let sum = over_grow d (2 ^ 32) _ _ (over_sum d _ _ _ _ (over_times d (pos g) s (pos doubt) hs) (over_units delta (pos h))) in
     subst (λ (z : ℤ). IsOver (d * 2 ^ 32) (whole (pos g) *ℚ s +ℚ units (pos h)) z) (omega (arith, ints)) sum
 
-scale_positive : (delta : ℕ) → 0 < delta → 0 < delta * 2 ^ 48 * 2 ^ 32
-scale_positive delta hd = mul-pos (mul-pos hd (omega arith)) (omega arith)
+pub fine_positive : (delta : ℕ) → 0 < delta → 0 < delta * 2 ^ 48 * 2 ^ 32
+fine_positive delta hd = mul-pos (mul-pos hd (omega arith)) (omega arith)
 
 pub bounds_first_of : (k : Coefs) (g h : ℕ) → KeepsFirst k g h → BoundsFirst k (pos g) (pos h)
 bounds_first_of k g h keeps from_one s xs ys Xs may natural run near =
@@ -154,7 +154,7 @@ bounds_first_of k g h keeps from_one s xs ys Xs may natural run near =
     let b = keeps from_one w.doubt w.delta w.inputs w.outputs Xs may rz nz in
     let left = over_size (d * 2 ^ 32) _ _ (over_times (d * 2 ^ 32) (pos (2 ^ 32)) _ _ (over_first_error w.delta k from_one xs ys w.inputs w.outputs Xs w.inputs_over w.outputs_over)) in
     let least = b.within in
-    at_most_over (d * 2 ^ 32) _ _ _ _ (scale_positive w.delta w.positive) (omega (arith, lin, least)) left (over_bound w.delta w.doubt g h s w.doubt_over)
+    at_most_over (d * 2 ^ 32) _ _ _ _ (fine_positive w.delta w.positive) (omega (arith, lin, least)) left (over_bound w.delta w.doubt g h s w.doubt_over)
 
 pub bounds_second_of : (k : Coefs) (g h : ℕ) → KeepsBoth k g h → BoundsSecond k (pos g) (pos h)
 bounds_second_of k g h keeps from_one s xs ys Xs some may natural run near =
@@ -167,7 +167,7 @@ bounds_second_of k g h keeps from_one s xs ys Xs some may natural run near =
     let two = over_times (d * 2 ^ 32) (pos (2 ^ 32)) _ _ (over_second_error w.delta k from_one xs ys w.inputs w.outputs Xs w.inputs_over w.outputs_over) in
     let left = over_size (d * 2 ^ 32) _ _ (over_difference (d * 2 ^ 32) _ _ _ _ two one) in
     let least = b.within in
-    at_most_over (d * 2 ^ 32) _ _ _ _ (scale_positive w.delta w.positive) (omega (arith, lin, least)) left (over_bound w.delta w.doubt g h s w.doubt_over)
+    at_most_over (d * 2 ^ 32) _ _ _ _ (fine_positive w.delta w.positive) (omega (arith, lin, least)) left (over_bound w.delta w.doubt g h s w.doubt_over)
 
 pub keeps_second_of : (k : Coefs) (h : ℤ) → k.b2 ≡ pos 0 → k.a2 ≡ pos 0 → KeepsSecond k h
 keeps_second_of k h b a from_one s xs ys Xs none may natural run near =
@@ -175,7 +175,7 @@ keeps_second_of k h b a from_one s xs ys Xs none may natural run near =
     let d : ℕ = w.delta * 2 ^ 48 in
     let e = over_second_error w.delta k from_one xs ys w.inputs w.outputs Xs w.inputs_over w.outputs_over in
     let zero = second_error_zero k from_one w.delta w.inputs w.outputs Xs b a in
-    same_over (d * 2 ^ 32) _ _ (pos 0) (scale_positive w.delta w.positive)
+    same_over (d * 2 ^ 32) _ _ (pos 0) (fine_positive w.delta w.positive)
     (subst (λ (z : ℤ). IsOver (d * 2 ^ 32) (second_error k from_one xs ys Xs) z) zero e) (record { is = omega (arith, ints) })
 
 -- ---- the bound of each output

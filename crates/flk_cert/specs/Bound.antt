@@ -1,5 +1,5 @@
--- How far a section with rounded products lies from the exact one. A list has its newest value first, and each part of a run's
--- beginning is a run, so that a bound of the newest value is one of each value.
+-- How far a section with rounded products lies from the exact one. A list has its newest value first, and each part of
+-- a run's beginning is a run, so that a bound of the newest value is one of each value.
 use Rattle.std.specs.Prelude.{◌≡◌, ◌^◌, Bool, true, false, List, ◌∷◌, ℤ, pos, neg_ℤ, ◌<ℤ◌}
 use Rattle.std.specs.List.{AllZip}
 use Rattle.flk_exact.specs.Fraction.{Fraction, ◌≤ℚ◌, ◌≈ℚ◌, ◌+ℚ◌, ◌-ℚ◌, ◌*ℚ◌, size, whole, units}
@@ -28,8 +28,8 @@ AllNear s xs Xs = AllZip (IsInputNear s) xs Xs
 abbrev pub IsErrorWithin : (input rounding : ℤ) → (s y : Fraction) → ℤ → Type 0
 IsErrorWithin input rounding s y Y = size (y -ℚ units Y) ≤ℚ (coefficient input *ℚ s +ℚ units rounding)
 
--- Whatever the inputs and their number: where each exact input is within s of the rounded section's, the newest outputs are within
--- `input*s + rounding` of each other.
+-- Whatever the inputs and their number: where each exact input is within s of the rounded section's, the newest outputs
+-- are within `input*s + rounding` of each other.
 abbrev pub Bounds : Coefs → (input rounding : ℤ) → Type 0
 Bounds k input rounding =
     (from_one : Bool) (s x y : Fraction) (xs ys : List Fraction) (X : ℤ) (Xs : List ℤ)

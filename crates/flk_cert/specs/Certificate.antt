@@ -1,5 +1,6 @@
--- When a certificate fits the coefficients of a section, and which of its conditions fails first. The conditions are the project's
--- own. The numbers of a row are named in `Row`, and 2^64 is the square of the coefficients' denominator 2^32.
+-- When a certificate fits the coefficients of a section, and which of its conditions fails first. The conditions are
+-- the project's own. The numbers of a row are named in `Row`, and 2^64 is the square of the coefficients' denominator
+-- 2^32.
 use Rattle.std.specs.Prelude.{◌≡◌, ◌⊎◌, ℕ, ◌+◌, ◌^◌, ◌<◌, ◌≤◌, List, length, slice_index_or, sum_by, ℤ, pos, neg_ℤ, ◌+ℤ◌, ◌-ℤ◌, ◌*ℤ◌, ◌<ℤ◌, ◌≤ℤ◌}
 use Rattle.std.specs.Int.RustNames.{unsigned_abs}
 use Rattle.flk_cert.specs.declared.certificate.CertRow.{CertRow}
@@ -46,15 +47,17 @@ pub record HasShape (k : Coefs) (rows : List CertRow) (i : ℕ) : Type 0 where
   pub row_0 : i ≡ 0 → HasForm (pos (2 ^ 32)) (pos 0) (row_at rows 0)
   pub row_1 : i ≡ 1 → 1 < length rows → HasForm (neg_ℤ k.a1) (pos (2 ^ 32)) (row_at rows 1)
 
--- Contraction: what the forms take up of the first two is below 1 for one row, and for several rows together at most a quarter.
+-- Contraction: what the forms take up of the first two is below 1 for one row, and for several rows together at most a
+-- quarter.
 pub record Contracts (rows : List CertRow) : Type 0 where
   pub single : length rows ≡ 1 → unsigned_abs (row_at rows 0).c < 2 ^ 64
   pub several : 1 < length rows → sum_by (λ r. unsigned_abs r.c + unsigned_abs r.d) rows ≤ 2 ^ 62
 
--- Identity of row i: its form after a sample is the next row's form, c times the first and d times the second, all before it.
+-- Identity of row i: its form after a sample is the next row's form, c times the first and d times the second, all
+-- before it.
 --
--- One row is no special case of several. The second equation would then be `2^64*2^32 = 0`. It isn't wanted: with b2 = a2 = 0 no
--- product of the second state loses anything, and its error is 0.
+-- One row is no special case of several. The second equation would then be `2^64*2^32 = 0`. It isn't wanted: with b2 =
+-- a2 = 0 no product of the second state loses anything, and its error is 0.
 pub record IsCombined (k : Coefs) (r next : CertRow) : Type 0 where
   pub first : pos (2 ^ 32) *ℤ fed_back k r.x r.y ≡ pos (2 ^ 64) *ℤ next.x +ℤ pos (2 ^ 32) *ℤ r.c -ℤ k.a1 *ℤ r.d
   pub second : pos (2 ^ 64) *ℤ r.x ≡ pos (2 ^ 64) *ℤ next.y +ℤ pos (2 ^ 32) *ℤ r.d
@@ -63,8 +66,8 @@ pub record HasIdentity (k : Coefs) (rows : List CertRow) (i : ℕ) : Type 0 wher
   pub single : length rows ≡ 1 → ((row_at rows i).c ≡ neg_ℤ (pos (2 ^ 32) *ℤ k.a1)) × ((row_at rows i).d ≡ pos 0)
   pub several : 1 < length rows → IsCombined k (row_at rows i) (row_at rows (i + 1))
 
--- `|c|*first + |d|*second + 2^64*next + share <= 2^64*own`: the bound of the row's own form covers what it takes up of the bounds
--- of the first, the second and the next row's form, and a share
+-- `|c|*first + |d|*second + 2^64*next + share <= 2^64*own`: the bound of the row's own form covers what it takes up of
+-- the bounds of the first, the second and the next row's form, and a share
 abbrev pub Covers : CertRow → (first second next : ℤ) → (share : ℕ) → (own : ℤ) → Type 0
 Covers r first second next share own =
     (pos (unsigned_abs r.c) *ℤ first +ℤ pos (unsigned_abs r.d) *ℤ second +ℤ pos (2 ^ 64) *ℤ next
@@ -94,7 +97,8 @@ Meets k rows Rounding i = i < length rows → CoversRounding k rows i
 abbrev pub FitsSection : Coefs → List CertRow → Type 0
 FitsSection k rows = (cause : Cause) (i : ℕ) → Meets k rows cause i
 
--- The order in which the conditions are asked: first Shape of each row, then Contraction, then row by row Identity, Input and Rounding.
+-- The order in which the conditions are asked: first Shape of each row, then Contraction, then row by row Identity,
+-- Input and Rounding.
 abbrev pub pass : Cause → ℕ
 pass Shape = 0
 pass Contraction = 1
@@ -106,7 +110,8 @@ pub record IsEarlier (first : Cause) (i : ℕ) (second : Cause) (j : ℕ) : Type
   pub is : (pass first < pass second) ⊎ ((pass first ≡ pass second) × ((i < j) ⊎ ((i ≡ j)
       × (cause_number first < cause_number second))))
 
--- This condition fails on row i, and no earlier one fails. Each certificate fits or has one first fault, since `check` answers.
+-- This condition fails on row i, and no earlier one fails. Each certificate fits or has one first fault, since `check`
+-- answers.
 pub record IsFirstUnmet (k : Coefs) (rows : List CertRow) (cause : Cause) (i : ℕ) : Type 0 where
   pub fails : ¬ Meets k rows cause i
   pub first : (other : Cause) (j : ℕ) → IsEarlier other j cause i → Meets k rows other j

@@ -54,7 +54,8 @@ gain_numbers g = record {
   second_rounding = second_rounding_of g;
 }
 
--- The gain is that of the certificate with these rows: `|b0| + g_0`, 1 more than `h_0 / 2^32` rounded up, and the bounds of rows 0 and 1.
+-- The gain is that of the certificate with these rows: `|b0| + g_0`, 1 more than `h_0 / 2^32` rounded up, and the
+-- bounds of rows 0 and 1.
 pub record IsGainOf (k : Coefs) (rows : List CertRow) (g : Gain) : Type 0 where
   pub coefs : coefs_of g ≡ k
   pub input : input_of g ≡ pos (unsigned_abs k.b0) +ℤ (row_at rows 0).g

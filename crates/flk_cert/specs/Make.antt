@@ -1,9 +1,9 @@
 -- The certificate that is made for a section. Its rules are the project's own.
 --
--- The form of row 0 is the error of the first state. Each later form is what one sample makes of the form before it, rounded down
--- to whole numbers. What the rounding leaves is `c` over 2^64 times the form of row 0; what is cut off after the last row is `c` over
--- 2^64 times the form of row 0 and `d` over 2^64 times that of row 1. Where all `c` and `d` together are small, the errors stay
--- bounded.
+-- The form of row 0 is the error of the first state. Each later form is what one sample makes of the form before it,
+-- rounded down to whole numbers. What the rounding leaves is `c` over 2^64 times the form of row 0; what is cut off
+-- after the last row is `c` over 2^64 times the form of row 0 and `d` over 2^64 times that of row 1. Where all `c` and
+-- `d` together are small, the errors stay bounded.
 use Rattle.std.specs.Prelude.{◌≡◌, ◌⊎◌, ℕ, zero, suc, ◌+◌, ◌-◌, ◌*◌, ◌^◌, ◌<◌, ◌≤◌, List, [], ◌∷◌, ◌++◌, length, sum_by, ℤ, pos, neg_ℤ, ◌+ℤ◌, ◌-ℤ◌, ◌*ℤ◌, ◌≤ℤ◌}
 use Rattle.std.specs.Int.RustNames.{unsigned_abs}
 use Rattle.flk_exact.specs.Rounding.{floor_of, ceil_of}
@@ -97,7 +97,8 @@ bound share most (r ∷ rs) = ceil_of (pos (weight r) *ℤ most +ℤ pos (share 
 abbrev pub bounded_by : Coefs → ℤ → ℤ → List CertRow → List CertRow
 bounded_by k input rounding [] = []
 bounded_by k input rounding (r ∷ rs) =
-    record r { g = bound (input_share_at k) input (r ∷ rs); h = bound (rounding_share_at k) rounding (r ∷ rs) } ∷ bounded_by k input rounding rs
+    record r { g = bound (input_share_at k) input (r ∷ rs); h = bound (rounding_share_at k) rounding (r ∷ rs) }
+    ∷ bounded_by k input rounding rs
 
 -- the rows with their bounds
 abbrev pub bounded : Coefs → List CertRow → List CertRow

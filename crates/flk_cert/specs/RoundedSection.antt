@@ -1,5 +1,5 @@
--- A filter section in direct form II transposed, with each product rounded down. Its values are whole numbers of units, which are
--- 2^-48 each. A list has its newest value first. The form and its rounding are the project's own.
+-- A filter section in direct form II transposed, with each product rounded down. Its values are whole numbers of units,
+-- which are 2^-48 each. A list has its newest value first. The form and its rounding are the project's own.
 use Rattle.std.specs.Prelude.{◌^◌, Bool, true, false, List, [], ◌∷◌, ℤ, pos, neg_ℤ, ◌+ℤ◌, ◌-ℤ◌, ◌*ℤ◌}
 use Rattle.flk_exact.specs.Rounding.{floor_of}
 use Rattle.flk_cert.specs.declared.coefs.Coefs.{Coefs}
@@ -24,7 +24,8 @@ after k s x = record {
       -ℤ product k.a2 (output k s x);
 }
 
--- Both states begin at 0. A section from one begins as if the input had always been 1, which is 2^48 units, with the output 0.
+-- Both states begin at 0. A section from one begins as if the input had always been 1, which is 2^48 units, with the
+-- output 0.
 abbrev pub start : Coefs → (from_one : Bool) → State
 start k true = record { s1 = neg_ℤ (pos 65536 *ℤ k.b0); s2 = pos 0 }
 start k false = record { s1 = pos 0; s2 = pos 0 }

@@ -1,7 +1,7 @@
 -- The numbers that the rows of a certificate of a section are judged by. Coefficients are whole numbers over 2^32.
 --
--- A section in transposed direct form II has two states: `y = b0*x + s1`, then `s1 = b1*x - a1*y + s2` and `s2 = b2*x - a2*y`.
--- A row (x, y) stands for the form `x*s1 + y*s2` of the errors of the states.
+-- A section in transposed direct form II has two states: `y = b0*x + s1`, then `s1 = b1*x - a1*y + s2` and
+-- `s2 = b2*x - a2*y`. A row (x, y) stands for the form `x*s1 + y*s2` of the errors of the states.
 use Rattle.std.specs.Prelude.{ℕ, ◌+◌, ◌*◌, ◌^◌, ℤ, pos, neg_ℤ, ◌+ℤ◌, ◌-ℤ◌, ◌*ℤ◌, ◌≤ℤ◌}
 use Rattle.std.specs.Int.RustNames.{unsigned_abs}
 use Rattle.flk_cert.specs.declared.coefs.Coefs.{Coefs}

@@ -1,4 +1,5 @@
--- A filter section of the second order, exactly: its difference equation over fractions. A list has its newest value first.
+-- A filter section of the second order, exactly: its difference equation over fractions. A list has its newest value
+-- first.
 use Rattle.std.specs.Prelude.{◌^◌, Bool, true, false, List, [], ◌∷◌, ℤ, pos}
 use Rattle.std.proofs.Common.{lit<}
 use Rattle.flk_exact.specs.Fraction.{Fraction, ◌≈ℚ◌, ◌+ℚ◌, ◌-ℚ◌, ◌*ℚ◌, whole}
@@ -31,16 +32,19 @@ IsSection k from_one [] [] = Unit {0}
 IsSection k from_one [] (y ∷ ys) = ⊥
 IsSection k from_one (x ∷ xs) [] = ⊥
 IsSection k from_one (x ∷ xs) (y ∷ ys) =
-    (y ≈ℚ (coefficient k.b0 *ℚ x +ℚ coefficient k.b1 *ℚ newest (input_before from_one) xs +ℚ coefficient k.b2 *ℚ second_newest (input_before from_one) xs
+    (y ≈ℚ (coefficient k.b0 *ℚ x +ℚ coefficient k.b1 *ℚ newest (input_before from_one) xs
+    +ℚ coefficient k.b2 *ℚ second_newest (input_before from_one) xs
     -ℚ coefficient k.a1 *ℚ newest output_before ys -ℚ coefficient k.a2 *ℚ second_newest output_before ys))
     × IsSection k from_one xs ys
 
--- The two states of direct form II transposed, after the samples xs with the outputs ys: the next output is `b0 x + s1`, and the
--- next first state `b1 x - a1 y + s2`.
+-- The two states of direct form II transposed, after the samples xs with the outputs ys: the next output is
+-- `b0 x + s1`, and the next first state `b1 x - a1 y + s2`.
 abbrev pub first_state : Coefs → (from_one : Bool) → (xs ys : List Fraction) → Fraction
 first_state k from_one xs ys =
-    coefficient k.b1 *ℚ newest (input_before from_one) xs +ℚ coefficient k.b2 *ℚ second_newest (input_before from_one) xs
+    coefficient k.b1 *ℚ newest (input_before from_one) xs
+    +ℚ coefficient k.b2 *ℚ second_newest (input_before from_one) xs
     -ℚ coefficient k.a1 *ℚ newest output_before ys -ℚ coefficient k.a2 *ℚ second_newest output_before ys
 
 abbrev pub second_state : Coefs → (from_one : Bool) → (xs ys : List Fraction) → Fraction
-second_state k from_one xs ys = coefficient k.b2 *ℚ newest (input_before from_one) xs -ℚ coefficient k.a2 *ℚ newest output_before ys
+second_state k from_one xs ys =
+    coefficient k.b2 *ℚ newest (input_before from_one) xs -ℚ coefficient k.a2 *ℚ newest output_before ys

@@ -2,8 +2,9 @@
 
 use flk_num::List;
 
-/// A row of a certificate. It stands for the form `x * s1 + y * s2` of the errors of a section's two states: `c` and `d` say how
-/// the form after a sample comes from the forms before it, and `g` and `h` bound it by the input's error and by rounding.
+/// A row of a certificate. It stands for the form `x * s1 + y * s2` of the errors of a section's two states: `c` and
+/// `d` say how the form after a sample comes from the forms before it, and `g` and `h` bound it by the input's error
+/// and by rounding.
 #[derive(Clone, Copy, Debug, PartialEq, Eq)]
 pub struct CertRow {
     pub x: i64,

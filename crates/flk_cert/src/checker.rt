@@ -230,14 +230,16 @@ fn first_fault(k: &Coefs, rows: &[CertRow]) -> Option<Fault>
 
 /// The gain that a certificate shows for a section with these coefficients. It takes no memory.
 ///
-/// The fault is the first condition that fails, and comes exactly where one does: first the shape of each row is asked, then the
-/// contraction of all rows, then row by row identity, input and rounding ([`CertFault`] has the numbers). The gain bounds the error
-/// of the section whose products are rounded, for inputs of any number.
+/// The fault is the first condition that fails, and comes exactly where one does: first the shape of each row is asked,
+/// then the contraction of all rows, then row by row identity, input and rounding ([`CertFault`] has the numbers). The
+/// gain bounds the error of the section whose products are rounded, for inputs of any number.
 pub fn check(k: &Coefs, cert: &Cert) -> Result<Gain, CertFault>
     ensures ok { IsOk result ↔ FitsSection k.now cert.now.rows }
     ensures gain { IfOk result (λ gain. IsGainOf k.now cert.now.rows gain) }
     ensures bound { IfOk result (λ gain. Bounds k.now (input_of gain) (rounding_of gain)) }
-    ensures fault { (cause : CauseView) (row : ℕ) → IsErrOf result (record { row = row; kind = cause_number cause }) ↔ IsFirstUnmet k.now cert.now.rows cause row }
+    ensures fault { (cause : CauseView) (row : ℕ)
+        → IsErrOf result (record { row = row; kind = cause_number cause })
+        ↔ IsFirstUnmet k.now cert.now.rows cause row }
 {
     let rows = cert.rows.as_slice();
     match first_fault(k, rows) {

@@ -3,8 +3,8 @@
 ghost use Rattle.std.specs.Prelude.{◌^◌, ◌≤◌};
 ghost use Rattle.std.specs.Int.RustNames.{unsigned_abs};
 
-/// The coefficients of a second-order section `y = b0 x + b1 x' + b2 x'' - a1 y' - a2 y''`, where `x'` and `x''` are the
-/// inputs before x. Each is a whole number over 2^32, and at most 2^33 in size.
+/// The coefficients of a second-order section `y = b0 x + b1 x' + b2 x'' - a1 y' - a2 y''`, where `x'` and `x''` are
+/// the inputs before x. Each is a whole number over 2^32, and at most 2^33 in size.
 #[derive(Clone, Copy, Debug, PartialEq, Eq)]
 pub struct Coefs {
     pub b0: i64,

@@ -8,8 +8,8 @@ use thiserror::Error;
 /// The condition of a certificate that fails.
 #[derive(Clone, Copy, Debug, PartialEq, Eq)]
 pub enum Cause {
-    /// No row or more than 4096 rows; one row though b2 or a2 isn't 0; a number of a row that is out of its range; a first or a
-    /// second row of another form.
+    /// No row or more than 4096 rows; one row though b2 or a2 isn't 0; a number of a row that is out of its range; a
+    /// first or a second row of another form.
     Shape,
     /// The rows take up too much of the forms of rows 0 and 1. It is named at the last row.
     Contraction,
@@ -36,7 +36,8 @@ impl Cause {
     }
 }
 
-/// The first condition of a certificate that fails: its row, counted from 0, and the number of its cause ([`Cause::number`]).
+/// The first condition of a certificate that fails: its row, counted from 0, and the number of its cause
+/// ([`Cause::number`]).
 #[derive(Clone, Copy, Debug, PartialEq, Eq, Error)]
 #[error("certificate fault")]
 pub struct CertFault {

@@ -32,8 +32,9 @@ fn rounding_gain(h: i128) -> i128
     1 + ceil_div(h, TWO_TO_32)
 }
 
-/// A bound on the error of a section whose products are rounded: with an exact input that is always within r units of the rounded
-/// section's, its exact output is always within `input*r/2^32 + rounding` units of the rounded section's. `check` alone makes one.
+/// A bound on the error of a section whose products are rounded: with an exact input that is always within r units of
+/// the rounded section's, its exact output is always within `input*r/2^32 + rounding` units of the rounded section's.
+/// `check` alone makes one.
 #[derive(Clone, Copy)]
 pub struct Gain {
     coefs: Coefs,
@@ -102,8 +103,8 @@ impl Gain {
         self.rounding
     }
 
-    /// What bounds the error of the first state: g over 2^32 and h over 2^32 units. With an input error of at most r units it is at most
-    /// `(g*r + h)/2^32` units. Each is from 0 to below 2^60.
+    /// What bounds the error of the first state: g over 2^32 and h over 2^32 units. With an input error of at most r
+    /// units it is at most `(g*r + h)/2^32` units. Each is from 0 to below 2^60.
     pub fn first(&self) -> (i128, i128)
         ensures input { result.0 ≡ first_input_of self.now }
         ensures rounding { result.1 ≡ first_rounding_of self.now }
@@ -112,8 +113,8 @@ impl Gain {
         (self.first_input, self.first_rounding)
     }
 
-    /// What bounds the error of `s2 - a1*s1/2^32` in the same way, for the second state s2 and the first, s1. Both are 0 for a certificate
-    /// of one row, whose second state has no error. Each is from 0 to below 2^60.
+    /// What bounds the error of `s2 - a1*s1/2^32` in the same way, for the second state s2 and the first, s1. Both are
+    /// 0 for a certificate of one row, whose second state has no error. Each is from 0 to below 2^60.
     pub fn second(&self) -> (i128, i128)
         ensures input { result.0 ≡ second_input_of self.now }
         ensures rounding { result.1 ≡ second_rounding_of self.now }

@@ -1,12 +1,13 @@
 //! Filter sections with rounded products, and the certificates that bound their errors.
 //!
-//! A section is a second-order difference equation ([`Coefs`]). Run in direct form II transposed with each product rounded down,
-//! its output strays from the exact one. [`make`] makes a certificate, a list of rows of whole numbers. [`check`] reads one, whoever
-//! made it, and answers a [`Gain`]: a bound on that error which holds for inputs of any number.
+//! A section is a second-order difference equation ([`Coefs`]). Run in direct form II transposed with each product
+//! rounded down, its output strays from the exact one. [`make`] makes a certificate, a list of rows of whole numbers.
+//! [`check`] reads one, whoever made it, and answers a [`Gain`]: a bound on that error which holds for inputs of any
+//! number.
 //!
-//! What a section is stands in `specs/`: `Section` exactly, and `RoundedSection` as the program runs it. `Certificate` has the
-//! conditions of a certificate and `Bound` what a gain promises; `docs/CERTIFICATES.md` says why the one gives the other. `Make` has
-//! the rules by which a certificate is made.
+//! What a section is stands in `specs/`: `Section` exactly, and `RoundedSection` as the program runs it. `Certificate`
+//! has the conditions of a certificate and `Bound` what a gain promises; `docs/CERTIFICATES.md` says why the one gives
+//! the other. `Make` has the rules by which a certificate is made.
 #![tactic(auto)]
 
 mod certificate;

@@ -273,12 +273,12 @@ fn one_row(k: &Coefs) -> CertRow
     bounded_row(row, g, h)
 }
 
-/// The certificate of a section, made by rules of the project's own: its rows are those of the least number of rows, from 2 to
-/// 4096, that are contracted, with bounds that are sums from the last row back. Where a row with a number of 2^44 or more in size
-/// comes first, the rows end with it, and where there is no such number, with the 4096th; all bounds are then 0. A section with
-/// `b2 = a2 = 0` has one row, with the least bounds that meet its conditions, or bounds 0 where `|c|` is 2^64 or more. Whether a
-/// certificate proves anything is for its check to say. An error comes only where memory is short; a list of at most 4096 rows is
-/// all that is taken.
+/// The certificate of a section, made by rules of the project's own: its rows are those of the least number of rows,
+/// from 2 to 4096, that are contracted, with bounds that are sums from the last row back. Where a row with a number of
+/// 2^44 or more in size comes first, the rows end with it, and where there is no such number, with the 4096th; all
+/// bounds are then 0. A section with `b2 = a2 = 0` has one row, with the least bounds that meet its conditions, or
+/// bounds 0 where `|c|` is 2^64 or more. Whether a certificate proves anything is for its check to say. An error comes
+/// only where memory is short; a list of at most 4096 rows is all that is taken.
 pub fn make(alloc: Global, k: &Coefs) -> Result<Cert, AllocError>
     ensures { IfOk result (λ cert. IsMade k.now cert.rows) }
 {

@@ -24,9 +24,9 @@ pub fn gain_bounds_each_output()
     ensures { (gain : GainView) → BoundsEach (coefs_of gain) (input_of gain) (rounding_of gain) }
 {}
 
-/// A gain bounds the errors of the two states after each sample: the first one's, and with several rows of the certificate `2^32*s2 - a1*s1`,
-/// from which that of the second follows. With one row, which says that the second bound's share of rounding is 0, the second state has
-/// no error.
+/// A gain bounds the errors of the two states after each sample: the first one's, and with several rows of the
+/// certificate `2^32*s2 - a1*s1`, from which that of the second follows. With one row, which says that the second
+/// bound's share of rounding is 0, the second state has no error.
 pub fn gain_bounds_both_states()
     ensures first { (gain : GainView) → BoundsFirst (coefs_of gain) (first_input_of gain) (first_rounding_of gain) }
     ensures second { (gain : GainView) → BoundsSecond (coefs_of gain) (second_input_of gain) (second_rounding_of gain) }

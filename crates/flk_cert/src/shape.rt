@@ -109,8 +109,8 @@ pub(crate) fn first_misshaped(k: &Coefs, rows: &[CertRow]) -> Option<usize>
 
 const QUARTER: u128 = 4_611_686_018_427_387_904;
 
-// Whether all rows together take up at most a quarter of the first two forms. A sum that is above it is not formed: a number of a
-// row can have 128 bits.
+// Whether all rows together take up at most a quarter of the first two forms. A sum that is above it is not formed: a
+// number of a row can have 128 bits.
 fn take_up_a_quarter(rows: &[CertRow]) -> bool
     ensures { IsTrue result ↔ (sum_by (λ r. unsigned_abs r.c + unsigned_abs r.d) rows.now ≤ 2 ^ 62) }
 {

@@ -1,5 +1,5 @@
--- The canonical text of a configuration: the fields of its lines, with a comma between two fields and CR LF behind each line. The
--- lines and their fields are those of the table (IEEE C37.111-1999, clause 5.3).
+-- The canonical text of a configuration: the fields of its lines, with a comma between two fields and CR LF behind each
+-- line. The lines and their fields are those of the table (IEEE C37.111-1999, clause 5.3).
 use Rattle.std.specs.Prelude.{ℕ, zero, suc, ◌+◌, ◌/◌, ◌%◌, ◌^◌, cond, eqb, List, [], ◌∷◌, ◌++◌, length, codes, unsigned_abs, ◌≡◌, Result, Ok, Err}
 use Rattle.std.specs.Fmt.{decimal}
 use Rattle.flk_text.specs.Fields.{joined_fields}

@@ -69,22 +69,24 @@ FaultFromLast bytes k line field kind =
     ((line ≡ k + 1) × LastFaultAt bytes k (LineFault last_row) field kind)
     ⊎ (HasLastLine bytes k (IsGoodLine last_row) × TailFault bytes k line field kind)
 
--- the first fault lies in a line after the second, up to the one before the last, or these are good, and it lies from the last on
+-- the first fault lies in a line after the second, up to the one before the last, or these are good, and it lies from
+-- the last on
 abbrev pub FaultFromThird : (bytes : List ℕ) → ChannelCounts → (line field : ℕ) → Kind → Type 0
 FaultFromThird bytes count line field kind =
     ((j : ℕ) × (line ≡ j + 3) × FirstFaultAt bytes count j field kind)
     ⊎ (((i : ℕ) → i < count.analog + count.digital + 6 → IsGoodAt bytes count i)
     × FaultFromLast bytes (2 + count.analog + count.digital + 6) line field kind)
 
--- the first fault lies in the second line, or that line gives the counts of channels, and the fault lies from the third on
+-- the first fault lies in the second line, or that line gives the counts of channels, and the fault lies from the
+-- third on
 abbrev pub FaultFromSecond : (bytes : List ℕ) → (line field : ℕ) → Kind → Type 0
 FaultFromSecond bytes line field kind =
     ((line ≡ 2) × FaultAt bytes 1 CountsFault field kind)
     ⊎ ((count : ChannelCounts) × HasLine bytes 1 (λ parts. IsCounts parts count.analog count.digital)
     × FaultFromThird bytes count line field kind)
 
--- the first line that isn't there or isn't good, by its number from 1, its first faulty field, and the kind of the fault: it lies
--- in the first line, or that line is good, and the fault lies from the second on
+-- the first line that isn't there or isn't good, by its number from 1, its first faulty field, and the kind of the
+-- fault: it lies in the first line, or that line is good, and the fault lies from the second on
 abbrev pub IsFirstFault : (bytes : List ℕ) → (line field : ℕ) → Kind → Type 0
 IsFirstFault bytes line field kind =
     ((line ≡ 1) × FaultAt bytes 0 TitleFault field kind)

@@ -1,4 +1,5 @@
--- What the parts of the reader keep and answer. Contracts of private functions cite this file: `File` says what a configuration is.
+-- What the parts of the reader keep and answer. Contracts of private functions cite this file: `File` says what a
+-- configuration is.
 use Rattle.std.specs.Prelude.{◌≡◌, ◌≢◌, ℕ, ◌+◌, ◌<◌, ◌⊎◌, List, length}
 use Rattle.flk_field.specs.Sets.{Set, LineFault, IsGoodLine}
 use Rattle.flk_field.specs.Columns.{parts_of}

@@ -1,5 +1,5 @@
--- The rows of the table with the values of their columns: which fields of a line write which values. Faults of the first two
--- lines, which have rules of their own, are here too.
+-- The rows of the table with the values of their columns: which fields of a line write which values. Faults of the
+-- first two lines, which have rules of their own, are here too.
 use Rattle.std.specs.Prelude.{◌≡◌, ◌≢◌, ℕ, ◌+◌, ◌-◌, ◌^◌, ◌⊎◌, List, length, codes, ℤ}
 use Rattle.flk_num.specs.declared.rate.Rate.{Rate}
 use Rattle.flk_text.specs.Decimal.{IsDecimal}

@@ -1,4 +1,5 @@
--- Runs of a row's columns, as the reader judges them. Contracts of private functions cite this file: `Rows` has the whole rows.
+-- Runs of a row's columns, as the reader judges them. Contracts of private functions cite this file: `Rows` has the
+-- whole rows.
 use Rattle.std.specs.Prelude.{ℕ, Bool, List, [], ◌∷◌}
 use Rattle.flk_text.specs.Decimal.{IsDecimal}
 use Rattle.flk_field.specs.Values.{IsText, IsWholeFrom, IsDecimalOrZero, IsSide, IsBit}

@@ -1,4 +1,5 @@
--- The lines between those of the channels and the last one, as the reader takes them. Contracts of private functions cite this file.
+-- The lines between those of the channels and the last one, as the reader takes them. Contracts of private functions
+-- cite this file.
 use Rattle.std.specs.Prelude.{ℕ, ◌+◌, List, [], get_or}
 use Rattle.flk_field.specs.Sets.{Set}
 use Rattle.flk_cfg.specs.Table.{setting_rows}

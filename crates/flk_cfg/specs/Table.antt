@@ -1,5 +1,5 @@
--- The rows of the table of a configuration's lines (IEEE C37.111-1999, clause 5.3). The columns of a row are the fields of a line,
--- from the left.
+-- The rows of the table of a configuration's lines (IEEE C37.111-1999, clause 5.3). The columns of a row are the fields
+-- of a line, from the left.
 use Rattle.std.specs.Prelude.{ℕ, ◌+◌, ◌-◌, cond, ltb, List, [], ◌∷◌, get_or}
 use Rattle.flk_field.specs.Sets.{Set, Text, Revision, Total, Counted, Position, Decimal, DecimalOrZero, Side, Bit, Frequency, OneRate, SamplingRate, SampleCount, Date, Time, FormWord}
 

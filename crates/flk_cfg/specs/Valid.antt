@@ -12,7 +12,8 @@ use Rattle.flk_cfg.specs.declared.config.Stamp.{Stamp}
 abbrev pub is_name_byte : ℕ → Bool
 is_name_byte b = not ((eqb b 44 || eqb b 13) || (eqb b 10 || eqb b 26))
 
--- a text that a field can be: at most 64 bytes, without comma, CR, LF and 1A, and without a space at either end; it may be empty
+-- a text that a field can be: at most 64 bytes, without comma, CR, LF and 1A, and without a space at either end; it may
+-- be empty
 pub record IsName (text : List ℕ) : Type 0 where
   pub few : length text ≤ 64
   pub bytes : list_all is_name_byte text ≡ true

@@ -18,8 +18,8 @@ pub fn values_of_a_file_are_valid()
     ensures { (bytes : List ℕ) (c : ConfigView) → IsConfig bytes c → IsValid c }
 {}
 
-/// What is written is read back: whatever answers for the canonical text of a configuration, as `read_cfg` does, answers that
-/// configuration, or memory was short.
+/// What is written is read back: whatever answers for the canonical text of a configuration, as `read_cfg` does,
+/// answers that configuration, or memory was short.
 pub fn written_text_is_read_back()
     ensures { (c : ConfigView) (r : Result ConfigView (StopView FaultView)) → IsValid c → IsFileAnswer (canonical c) r
         → IsReadBack c r }

@@ -44,12 +44,13 @@ fn read_config(alloc: Global, bytes: &[u8]) -> Result<Config, Stop<Fault>>
     })
 }
 
-/// The configuration that the bytes of a file write, as IEEE C37.111-1999, clause 5, lays it down, with one sampling rate, of
-/// 2400 or 4800 samples a second.
+/// The configuration that the bytes of a file write, as IEEE C37.111-1999, clause 5, lays it down, with one sampling
+/// rate, of 2400 or 4800 samples a second.
 ///
-/// A line ends with LF or at the end of the file, and one CR before that end is dropped; its fields stand between commas, and
-/// spaces at both their ends are dropped. The fault is the first faulty line's, and in a line its count of fields comes first and
-/// then its fields from the left; [`CfgFault`] has the numbers. `OutOfMemory` says nothing of the bytes.
+/// A line ends with LF or at the end of the file, and one CR before that end is dropped; its fields stand between
+/// commas, and spaces at both their ends are dropped. The fault is the first faulty line's, and in a line its count of
+/// fields comes first and then its fields from the left; [`CfgFault`] has the numbers. `OutOfMemory` says nothing of
+/// the bytes.
 pub fn read_cfg(alloc: Global, bytes: &[u8]) -> Result<Config, Stop<CfgFault>>
     ensures { IsFileAnswer bytes.now result }
 {

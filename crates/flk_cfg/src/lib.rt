@@ -1,10 +1,10 @@
 //! Configuration files of IEEE C37.111-1999 (COMTRADE).
 //!
-//! [`read_cfg`] reads a whole file: it answers the configuration that the bytes write, or their first fault. What a configuration
-//! is stands in `specs/`: `Table` has the row of each line, `Rows` the rows with their values, `Places` the lines by their place,
-//! and `File` the file and its first fault. [`write_cfg`] writes a configuration's canonical text: `Valid` says which
-//! configurations have one, and `Canonical` which text it is. The functions of [`laws`] and [`canonical_laws`] have empty bodies:
-//! their contracts are laws of these definitions.
+//! [`read_cfg`] reads a whole file: it answers the configuration that the bytes write, or their first fault. What a
+//! configuration is stands in `specs/`: `Table` has the row of each line, `Rows` the rows with their values, `Places`
+//! the lines by their place, and `File` the file and its first fault. [`write_cfg`] writes a configuration's canonical
+//! text: `Valid` says which configurations have one, and `Canonical` which text it is. The functions of [`laws`] and
+//! [`canonical_laws`] have empty bodies: their contracts are laws of these definitions.
 //!
 //! Each line is cut into its fields once, and each field is read once, by the [`flk_field::Columns`] of the line.
 #![tactic(auto)]

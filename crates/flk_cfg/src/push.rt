@@ -219,7 +219,8 @@ fn push_rate(out: &mut Vec<u8>, rate: Rate) -> Result<(), AllocError>
     }
 }
 
-/// Appends the lines of the line frequency, of the number of sampling rates, and of the one rate with the number of records.
+/// Appends the lines of the line frequency, of the number of sampling rates, and of the one rate with the number of
+/// records.
 fn push_sampling(
     out: &mut Vec<u8>,
     lf: DecimalValue,

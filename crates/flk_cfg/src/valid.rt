@@ -12,10 +12,11 @@ use flk_text::DecimalValue;
 /// 10^12 in units of 10^-24.
 const GREATEST: u128 = 1_000_000_000_000_000_000_000_000_000_000_000_000;
 
-/// Whether a file can write the configuration: it has 1 to 256 analog and at most 256 digital channels; each text has at most 64
-/// bytes, no comma, CR, LF and 1A, and no space at either end; each decimal is of the set that `decimal` of `flk_text` reads; each
-/// letter is `P`, `p`, `S` or `s`; the dates are those of the calendar from year 1 on, and the times those of a day; the line
-/// frequency is above 0, and there is at least one record. Every configuration that [`crate::read_cfg`] answers is so.
+/// Whether a file can write the configuration: it has 1 to 256 analog and at most 256 digital channels; each text has
+/// at most 64 bytes, no comma, CR, LF and 1A, and no space at either end; each decimal is of the set that `decimal` of
+/// `flk_text` reads; each letter is `P`, `p`, `S` or `s`; the dates are those of the calendar from year 1 on, and the
+/// times those of a day; the line frequency is above 0, and there is at least one record. Every configuration that
+/// [`crate::read_cfg`] answers is so.
 pub fn valid_cfg(c: &Config) -> bool
     ensures { IsTrue result ↔ IsValid c.now }
 {

@@ -8,9 +8,10 @@ use crate::config::Config;
 use crate::push::{push_analogs, push_counts, push_digitals, push_settings, push_title};
 use std::alloc::{AllocError, Global};
 
-/// The canonical text of a configuration: the lines of IEEE C37.111-1999, clause 5.3, each with CR LF behind it. Decimals are
-/// written without an exponent and without zeros that say nothing, whole numbers without leading zeros, dates as `dd/mm/yyyy`, and
-/// times as `hh:mm:ss.ffffff`, with nine digits after the point where six don't hold the nanoseconds.
+/// The canonical text of a configuration: the lines of IEEE C37.111-1999, clause 5.3, each with CR LF behind it.
+/// Decimals are written without an exponent and without zeros that say nothing, whole numbers without leading zeros,
+/// dates as `dd/mm/yyyy`, and times as `hh:mm:ss.ffffff`, with nine digits after the point where six don't hold the
+/// nanoseconds.
 pub fn write_cfg(alloc: Global, c: &Config) -> Result<Vec<u8>, AllocError>
     requires { IsValid c.now }
     ensures { IfOk result (λ text. text.items ≡ canonical c.now) }

@@ -13,6 +13,7 @@ use crate::columns::Columns;
 use crate::kind::Fault;
 use crate::record::read_record;
 use flk_cfg::Config;
+use flk_num::crosses_threads;
 use std::alloc::{AllocError, Global};
 use std::marker::Model;
 
@@ -166,8 +167,6 @@ impl Block {
         Ok(head.number)
     }
 }
-
-fn crosses_threads<T: Send + Sync>(_value: &T) {}
 
 // A block can be handed to another thread, and seen by several at once.
 fn block_crosses_threads(block: &Block) {

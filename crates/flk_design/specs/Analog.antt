@@ -1,11 +1,12 @@
--- The flickermeter's third block after IEC 61000-4-15 as a chain of analog sections: the high-pass and the low-pass of sixth order
--- after Butterworth, then the weighting filter.
+-- The flickermeter's third block after IEC 61000-4-15 as a chain of analog sections: the high-pass and the low-pass of
+-- sixth order after Butterworth, then the weighting filter.
 use Rattle.std.specs.Prelude.{List, [], ◌∷◌, pos}
 use Rattle.std.proofs.Common.{lit<}
 use Rattle.flk_exact.specs.Fraction.{Fraction, ◌*ℚ◌}
 use Rattle.flk_design.specs.Lamp.{LampConstants, high_pass_corner, butterworth_75, butterworth_45, butterworth_15}
 
--- A section by its transfer function. Angular frequencies and s are in units of 2/T, for samples that are T seconds apart.
+-- A section by its transfer function. Angular frequencies and s are in units of 2/T, for samples that are T seconds
+-- apart.
 pub data AnalogSection : Type 0 where
   high_pass : (w : Fraction) → AnalogSection  -- s/(s + w)
   low_pass : (q w : Fraction) → AnalogSection  -- w^2/(s^2 + q w s + w^2)

@@ -1,5 +1,5 @@
--- From the analog sections to the coefficients of digital ones: the bilinear transform, and the rounding of the quotients. The
--- transform, the order of the sections and the rounding are this profile's own.
+-- From the analog sections to the coefficients of digital ones: the bilinear transform, and the rounding of the
+-- quotients. The transform, the order of the sections and the rounding are this profile's own.
 use Rattle.std.specs.Prelude.{◌≡◌, List, pos, neg_ℤ, ◌*ℤ◌}
 use Rattle.std.specs.List.{AllZip}
 use Rattle.flk_exact.specs.Fraction.{Fraction, ◌+ℚ◌, ◌-ℚ◌, ◌*ℚ◌, whole}
@@ -43,8 +43,8 @@ denominator (band_pass k l w) = bilinear_2 (w *ℚ w) (whole (pos 2) *ℚ l) one
 denominator (lead_lag v w) = bilinear_1 (v *ℚ w) v
 denominator (lag w) = bilinear_1 w one
 
--- The rest of the numerator: b1 and b2 are the multiples of the rounded b0 that they were of b0, so that the zeros of the section stay
--- where they are. In the lead and lag alone b1 is rounded by itself.
+-- The rest of the numerator: b1 and b2 are the multiples of the rounded b0 that they were of b0, so that the zeros of
+-- the section stay where they are. In the lead and lag alone b1 is rounded by itself.
 abbrev pub KeepsZeros : AnalogSection → Coefs → Type 0
 KeepsZeros (high_pass w) k = (k.b1 ≡ neg_ℤ k.b0) × (k.b2 ≡ pos 0)
 KeepsZeros (low_pass q w) k = (k.b1 ≡ pos 2 *ℤ k.b0) × (k.b2 ≡ k.b0)

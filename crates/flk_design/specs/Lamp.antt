@@ -8,7 +8,8 @@ use Rattle.flk_num.specs.declared.lamp.Lamp.TheVariants.{L230, L120}
 
 -- the decimal fraction that has these digits, the last so many of them after the point
 abbrev pub decimal_fraction : (digits places : ℕ) → Fraction
-decimal_fraction digits places = record { num = pos digits; den = 10 ^ places; positive = one-le-pow places 10 (lit< tt) }
+decimal_fraction digits places =
+    record { num = pos digits; den = 10 ^ places; positive = one-le-pow places 10 (lit< tt) }
 
 -- What differs between the lamps: the corner of the low-pass; and of the weighting filter
 -- `k w1 s/(s^2 + 2 l s + w1^2) * (1 + s/w2)/((1 + s/w3)(1 + s/w4))` the factor k, and l and w1 to w4 over 2 pi.
@@ -45,8 +46,8 @@ constants_of L120 = record {
 abbrev pub high_pass_corner : Fraction
 high_pass_corner = decimal_fraction 5 2
 
--- A low-pass of sixth order after Butterworth has three sections `w^2/(s^2 + q w s + w^2)`, where q is twice the cosine of 75, 45 and 15
--- degrees.
+-- A low-pass of sixth order after Butterworth has three sections `w^2/(s^2 + q w s + w^2)`, where q is twice the cosine
+-- of 75, 45 and 15 degrees.
 abbrev pub butterworth_75 : Fraction
 butterworth_75 = decimal_fraction 5176380902 10  -- 0.5176380902
 

@@ -10,9 +10,10 @@ use crate::rate_4800::design_4800;
 use flk_cert::Coefs;
 use flk_num::{Lamp, Rate};
 
-/// The coefficients of the seven sections of the lamp's filter at a sampling rate, over 2^32, after IEC 61000-4-15: the high-pass at
-/// 0.05 Hz, the low-pass of sixth order after Butterworth (35 or 42 Hz) in three sections, and the weighting filter in three
-/// (band-pass, lead and lag, last lag), by the bilinear transform, each quotient rounded to the nearest.
+/// The coefficients of the seven sections of the lamp's filter at a sampling rate, over 2^32, after IEC 61000-4-15: the
+/// high-pass at 0.05 Hz, the low-pass of sixth order after Butterworth (35 or 42 Hz) in three sections, and the
+/// weighting filter in three (band-pass, lead and lag, last lag), by the bilinear transform, each quotient rounded to
+/// the nearest.
 pub fn design_at(lamp: Lamp, rate: Rate) -> [Coefs; 7]
     ensures { IsDesign (sampling_interval rate) (constants_of lamp) result }
 {

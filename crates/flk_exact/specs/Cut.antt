@@ -1,12 +1,15 @@
--- Where a recording is cut into half-periods. The cut reads the signs of the recorded samples alone, so every run has the
--- same cut. IEC 61000-3-3, clause 3, judges r.m.s. values of half-periods; this rule of their ends is the project's own.
+-- Where a recording is cut into half-periods. The cut reads the signs of the recorded samples alone, so every run has
+-- the same cut. IEC 61000-3-3, clause 3, judges r.m.s. values of half-periods; this rule of their ends is the
+-- project's own.
 use Rattle.std.specs.Prelude.{◌≡◌, ◌≢◌, ◌⊎◌, ℕ, ◌+◌, ◌-◌, ◌*◌, ◌<◌, ◌≤◌, Bool, false, List, [], ◌∷◌, length, slice_index_or, slice_range}
 
--- The half-period that begins at sample s ends before sample p: after twice as many samples as half a nominal period has, or
--- where the sign changes after at least half of them. (`half` is the number of samples of half a nominal period.)
+-- The half-period that begins at sample s ends before sample p: after twice as many samples as half a nominal period
+-- has, or where the sign changes after at least half of them. (`half` is the number of samples of half a nominal
+-- period.)
 abbrev pub Ends : ℕ → List Bool → ℕ → ℕ → Type 0
 Ends half negative s p =
-    (p ≡ s + 2 * half) ⊎ ((half ≤ 2 * (p - s)) × (slice_index_or negative p false ≢ slice_index_or negative (p - 1) false))
+    (p ≡ s + 2 * half)
+    ⊎ ((half ≤ 2 * (p - s)) × (slice_index_or negative p false ≢ slice_index_or negative (p - 1) false))
 
 -- p is the least position after s at which it ends
 pub record IsNextCut (half : ℕ) (negative : List Bool) (s p : ℕ) : Type 0 where
@@ -20,8 +23,8 @@ abbrev pub AreCutsFrom : ℕ → List Bool → ℕ → List ℕ → Type 0
 AreCutsFrom half negative s [] = (q : ℕ) → s < q → q < length negative → ¬ Ends half negative s q
 AreCutsFrom half negative s (p ∷ ps) = IsNextCut half negative s p × AreCutsFrom half negative p ps
 
--- The half-periods of the recording end before these positions. The first begins at sample 0, each other one where the one
--- before ends; what follows the last cut belongs to no half-period.
+-- The half-periods of the recording end before these positions. The first begins at sample 0, each other one where the
+-- one before ends; what follows the last cut belongs to no half-period.
 abbrev pub AreCuts : ℕ → List Bool → List ℕ → Type 0
 AreCuts half negative cuts = AreCutsFrom half negative 0 cuts
 

@@ -23,7 +23,11 @@ pub record ◌≈ℚ◌ (p q : Fraction) : Type 0 where
   pub cross : p.num *ℤ pos q.den ≡ q.num *ℤ pos p.den
 
 abbrev pub ◌+ℚ◌ : Fraction → Fraction → Fraction
-p +ℚ q = record { num = p.num *ℤ pos q.den +ℤ q.num *ℤ pos p.den; den = p.den * q.den; positive = mul-pos p.positive q.positive }
+p +ℚ q = record {
+  num = p.num *ℤ pos q.den +ℤ q.num *ℤ pos p.den;
+  den = p.den * q.den;
+  positive = mul-pos p.positive q.positive;
+}
 
 abbrev pub negative : Fraction → Fraction
 negative p = record { num = neg_ℤ p.num; den = p.den; positive = p.positive }

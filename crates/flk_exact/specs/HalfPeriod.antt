@@ -1,5 +1,5 @@
--- The value of a half-period of a run, in billionths of nominal: its r.m.s. voltage over half a nominal period, rounded down.
--- IEC 61000-3-3, clause 3, judges voltage changes by such values.
+-- The value of a half-period of a run, in billionths of nominal: its r.m.s. voltage over half a nominal period, rounded
+-- down. IEC 61000-3-3, clause 3, judges voltage changes by such values.
 use Rattle.std.specs.Prelude.{ℕ, ◌*◌, ◌^◌, List, [], ◌∷◌, ℤ, pos, ◌*ℤ◌, ◌≤ℤ◌}
 use Rattle.std.specs.List.{AllZip}
 use Rattle.flk_exact.specs.Fraction.{Fraction, ◌≤ℚ◌, ◌+ℚ◌, ◌*ℚ◌, whole}
@@ -22,6 +22,7 @@ pub record IsHalfPeriodValue (half : ℕ) (voltages : List Fraction) (w : ℤ) :
 abbrev pub AreHalfPeriodValues : ℕ → List ℕ → List Fraction → List ℤ → Type 0
 AreHalfPeriodValues half cuts run values = AllZip (IsHalfPeriodValue half) (half_periods cuts run) values
 
--- how wide the interval of a half-period's value may be, in billionths, where each voltage's is at most `2 * delta` wide
+-- how wide the interval of a half-period's value may be, in billionths, where each voltage's is at most
+-- `2 * delta` wide
 abbrev pub half_period_width : Fraction → Fraction
 half_period_width delta = whole (pos (3 * 10 ^ 9)) *ℚ delta +ℚ whole (pos 3)

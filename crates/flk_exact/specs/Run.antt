@@ -16,7 +16,8 @@ IsAdmittedRun nominal uncertainty recorded run = AllZip (IsAdmitted nominal unce
 
 -- a recorded voltage itself, relative to nominal
 abbrev pub relative_to : (nominal : ℕ) → 0 < nominal → Fraction → Fraction
-relative_to nominal positive recorded = record { num = recorded.num; den = recorded.den * nominal; positive = mul-pos recorded.positive positive }
+relative_to nominal positive recorded =
+    record { num = recorded.num; den = recorded.den * nominal; positive = mul-pos recorded.positive positive }
 
 -- delta is at least the uncertainty relative to nominal, and two units for the rounding of a voltage's interval
 pub record CoversDoubt (nominal uncertainty : ℕ) (delta : Fraction) : Type 0 where

@@ -6,7 +6,8 @@ ghost use Rattle.flk_exact.specs.Cut.{IsNextCut, AreCuts};
 /// A recording has one list of cuts.
 pub fn cuts_are_one_list()
     ensures exists { (half : ℕ) (negative : List Bool) → (cuts : List ℕ) × AreCuts half negative cuts }
-    ensures unique { (half : ℕ) (negative : List Bool) (ps qs : List ℕ) → AreCuts half negative ps → AreCuts half negative qs → ps ≡ qs }
+    ensures unique { (half : ℕ) (negative : List Bool) (ps qs : List ℕ)
+        → AreCuts half negative ps → AreCuts half negative qs → ps ≡ qs }
 {}
 
 /// A half-period has at most twice as many samples as half a nominal period.

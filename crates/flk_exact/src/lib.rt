@@ -1,8 +1,8 @@
 //! The ground on which every theorem stands: definitions, and the laws that keep them honest.
 //!
-//! The definitions stand in `specs/`: rounding, fractions, the runs that a recording admits, the cut into half-periods, the
-//! value of a half-period, the least and the greatest. Each function here has an empty body, and its contract is a law of
-//! these definitions. Nothing here runs.
+//! The definitions stand in `specs/`: rounding, fractions, the runs that a recording admits, the cut into half-periods,
+//! the value of a half-period, the least and the greatest. Each function here has an empty body, and its contract is a
+//! law of these definitions. Nothing here runs.
 #![tactic(auto)]
 
 mod cut;

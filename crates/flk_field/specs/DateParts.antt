@@ -1,4 +1,5 @@
--- The numbers of dates and times as they are found from the left. Contracts of private functions cite this file: `Dates` says what a text is.
+-- The numbers of dates and times as they are found from the left. Contracts of private functions cite this file:
+-- `Dates` says what a text is.
 use Rattle.std.specs.Prelude.{ℕ, ◌+◌, ◌-◌, ◌*◌, ◌^◌, ◌&&◌, leb, ltb, eqb, List, [], ◌∷◌, length, Option, Some, None, if◌then◌else◌}
 use Rattle.std.specs.List.{list_all}
 use Rattle.flk_text.specs.Numeral.{is_digit, number_from}

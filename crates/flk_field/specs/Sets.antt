@@ -1,5 +1,5 @@
--- The sets of the fields of a configuration's lines (IEEE C37.111-1999, clause 5.3): the set of a field, the kind of a field that
--- isn't in its set, and a line against a row of sets, one for each field from the left.
+-- The sets of the fields of a configuration's lines (IEEE C37.111-1999, clause 5.3): the set of a field, the kind of a
+-- field that isn't in its set, and a line against a row of sets, one for each field from the left.
 use Rattle.std.specs.Prelude.{◌≡◌, ◌≢◌, ℕ, ◌+◌, ◌-◌, ◌^◌, ◌<◌, ◌≤◌, ◌⊎◌, Bool, false, List, [], ◌∷◌, length, get_or, codes, ℤ}
 use Rattle.std.specs.List.{list_all}
 use Rattle.flk_num.specs.declared.rate.Rate.{Rate}

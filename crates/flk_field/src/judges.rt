@@ -1,5 +1,5 @@
-//! The fields of a line against the sets of the table: each function judges the field at a place, counted from 1, and answers its
-//! value, or its fault.
+//! The fields of a line against the sets of the table: each function judges the field at a place, counted from 1, and
+//! answers its value, or its fault.
 
 ghost use Rattle.std.specs.Prelude.{◌≡◌, ◌<◌, ◌≤◌, ◌^◌, ◌-◌, codes, length, MatchResult};
 ghost use Rattle.flk_text.specs.Decimal.{IsDecimal};

@@ -16,8 +16,8 @@ pub enum Kind {
     Number,
     /// A number, position, sum, date or time of its form that is out of its set, other than nrates and samp.
     Range,
-    /// A file type, a letter P or S, or the letter of a count that isn't one of the named words; or a text of at most 64 bytes
-    /// with a CR or a byte 1A.
+    /// A file type, a letter P or S, or the letter of a count that isn't one of the named words; or a text of at most
+    /// 64 bytes with a CR or a byte 1A.
     Word,
     /// A revision year other than 1999; it is missing in a first line of two fields.
     Revision,

@@ -175,7 +175,7 @@ ArePoints-exists e (v ∷ vs) =
     let p : Point = record { mid = half; radius = pos ends.hi -ℤ half } in
     (p ∷ rest.0, (record { mid = refl; radius = refl }, rest.1))
 
-point_same : (p q : Point) → p.mid ≡ q.mid → p.radius ≡ q.radius → p ≡ q
+pub point_same : (p q : Point) → p.mid ≡ q.mid → p.radius ≡ q.radius → p ≡ q
 point_same p q h k =
     let made : ℤ → ℤ → Point = λ m r. record { mid = m; radius = r } in
     ap (λ (m : ℤ). made m p.radius) h ∙ ap (λ (r : ℤ). made q.mid r) k

@@ -1,4 +1,5 @@
--- The generated workload: three sines of 50 Hz at 2400 samples a second, lowered by depths that are drawn twice a second.
+-- The generated workload: three sines of 50 Hz at 2400 samples a second, lowered by depths that are drawn twice a
+-- second.
 use Rattle.std.specs.Prelude.{ℕ, zero, suc, ◌+◌, ◌-◌, ◌*◌, ◌/◌, ◌%◌, ◌^◌, leb, ltb, List, [], ◌∷◌, get_or, if◌then◌else◌, ℤ, pos, neg_ℤ, ◌*ℤ◌}
 use Rattle.flk_exact.specs.Rounding.{floor_of}
 

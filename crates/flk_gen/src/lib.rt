@@ -1,7 +1,7 @@
 //! The generated workload: a recording of three voltages at 50 Hz, for trials and for measuring speed.
 //!
-//! Three sines of 230 V (`wave`) are each lowered by at most 0.9 percent. By how much is drawn anew twice a second (`draws`), so
-//! that a flickermeter has something to measure. The same seed gives the same samples (`workload`).
+//! Three sines of 230 V (`wave`) are each lowered by at most 0.9 percent. By how much is drawn anew twice a second
+//! (`draws`), so that a flickermeter has something to measure. The same seed gives the same samples (`workload`).
 #![tactic(auto)]
 
 mod draws;

@@ -52,7 +52,8 @@ impl Workload {
         }
     }
 
-    /// The values of the three channels at the next sample, in units of 0.0125 V; `None` exactly where all samples were given.
+    /// The values of the three channels at the next sample, in units of 0.0125 V; `None` exactly where all samples were
+    /// given.
     pub fn next_sample(&mut self) -> Option<[i32; 3]>
         ensures some { (seed all n : ℕ) → Stands self.old seed all n
             → IfSome result (λ v. (n < all) × (v ≡ values seed n) × Stands self.new seed all (n + 1)) }

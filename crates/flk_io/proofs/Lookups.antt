@@ -4,8 +4,10 @@ use Rattle.std.specs.Prelude.{string_bytes, slice_set, drop, OnOk, OnErr, Result
 use Rattle.std.specs.Str.{bytes_eq}
 use Rattle.std.proofs.lemmas.List.{take-append-drop, drop-drop}
 use Rattle.std.proofs.lemmas.Slice.Eq.{bytes_eq-Decides}
+use Rattle.std.proofs.lemmas.Bool.{false_from_ne_true}
 use Rattle.flk_io.specs.declared.memory_file.File.{File}
 use Rattle.flk_io.specs.Files.{has_name, held, IsFirst, NoFile}
+use Rattle.flk_io.proofs.Names.{equal_names}
 
 -- ---- results
 
@@ -19,16 +21,9 @@ OnErr-map (Err e) f p = f p
 
 -- ---- names
 
-pub equal_names : (xs ys : List ℕ) → bytes_eq xs ys ≡ true → xs ≡ ys
-equal_names xs ys e = search (rules, bytes_eq-Decides)
-
-is_false : (b : Bool) → ¬ (b ≡ true) → b ≡ false
-is_false true h = absurd (h refl)
-is_false false h = refl
-
 -- a file has one name
 other_name : (f : File) (name other : List ℕ) → has_name f name ≡ true → other ≢ name → has_name f other ≡ false
-other_name f name other is differs = is_false (has_name f other) (λ same. differs (sym (equal_names (string_bytes f.name) other same) ∙ equal_names (string_bytes f.name) name is))
+other_name f name other is differs = false_from_ne_true (has_name f other) (λ same. differs (sym (equal_names (string_bytes f.name) other same) ∙ equal_names (string_bytes f.name) name is))
 
 is_named : (g : File) (name : List ℕ) → string_bytes g.name ≡ name → has_name g name ≡ true
 is_named g name same = rw (← same) (equal_to_itself (string_bytes g.name))

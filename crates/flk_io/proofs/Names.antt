@@ -1,5 +1,5 @@
--- The names under which files were opened.
-use Rattle.std.proofs.Common.{◌≡◌, ◌≢◌, ℕ, ◌+◌, ◌<◌, false, List, [], length, get_or, take, map, Contains, string_bytes, slice_set, ⊎_elim, ◌∙◌, ap, subst, rules}
+-- Names of files that are the same, and the names under which files were opened.
+use Rattle.std.proofs.Common.{◌≡◌, ◌≢◌, ℕ, ◌+◌, ◌<◌, true, false, List, [], length, get_or, take, map, Contains, string_bytes, slice_set, ⊎_elim, ◌∙◌, ap, subst, rules}
 use Rattle.std.specs.Str.{bytes_eq}
 use Rattle.std.proofs.Math.Seq.{map-set_same}
 use Rattle.std.proofs.lemmas.List.{take_more}
@@ -7,6 +7,9 @@ use Rattle.std.proofs.lemmas.List.Elements.{Contains-get_or, Contains-push_cases
 use Rattle.std.proofs.lemmas.Slice.Eq.{bytes_eq-Decides}
 use Rattle.flk_io.specs.OpenFiles.{name_of}
 use Rattle.flk_io.specs.declared.open_files.OpenFile.{OpenFile}
+
+pub equal_names : (xs ys : List ℕ) → bytes_eq xs ys ≡ true → xs ≡ ys
+equal_names xs ys e = search (rules, bytes_eq-Decides)
 
 pub unequal_names : (xs ys : List ℕ) → bytes_eq xs ys ≡ false → xs ≢ ys
 unequal_names xs ys e = search (rules, bytes_eq-Decides)

@@ -31,7 +31,8 @@ AllStay old new = (name : List ℕ) → new name ≡ old name
 
 -- a read took the first n bytes of what was left, none only at its end, and nothing where it failed
 abbrev pub Takes : {E : Type 0} → Option (List ℕ) → Option (List ℕ) → Result ℕ E → List ℕ → Type 0
-Takes old new result buf = MatchResult result (λ n. (n ≤ length buf) × Consumes old new (take n buf) × (n ≡ 0 → IsAtEnd new)) (λ _. new ≡ old)
+Takes old new result buf =
+    MatchResult result (λ n. (n ≤ length buf) × Consumes old new (take n buf) × (n ≡ 0 → IsAtEnd new)) (λ _. new ≡ old)
 
 -- what was left began with n bytes, which were taken
 abbrev pub TakesFront : Option (List ℕ) → Option (List ℕ) → ℕ → Type 0
@@ -43,7 +44,8 @@ TakesAll old new bytes = Consumes old new bytes × IsAtEnd new
 
 -- a write added the first n bytes, at least one, and nothing where it failed
 abbrev pub Adds : {E : Type 0} → Option (List ℕ) → Option (List ℕ) → Result ℕ E → List ℕ → Type 0
-Adds old new result bytes = MatchResult result (λ n. (0 < n) × (n ≤ length bytes) × Appends old new (take n bytes)) (λ _. new ≡ old)
+Adds old new result bytes =
+    MatchResult result (λ n. (0 < n) × (n ≤ length bytes) × Appends old new (take n bytes)) (λ _. new ≡ old)
 
 -- the bytes that were added are a front of those that were due
 abbrev pub AddsFront : Option (List ℕ) → Option (List ℕ) → List ℕ → Type 0

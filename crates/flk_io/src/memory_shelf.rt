@@ -130,7 +130,8 @@ impl Shelf for MemShelf {
 
         ensures fails { IsErr result ↔ Contains (shelf_failing self.old) (one_more (shelf_calls self.old)) }
         ensures counted { OnErr result (read_faults_in self.new ≡ one_more (read_faults_in self.old)) }
-        ensures count { IfOk result (λ n. n ≡ min (shelf_most self.old) (min (length buf.old) (length (left_in self.old name.now)))) }
+        ensures count { IfOk result (λ n.
+            n ≡ min (shelf_most self.old) (min (length buf.old) (length (left_in self.old name.now)))) }
         ensures room { AllStay (room_in self.old) (room_in self.new) }
         ensures most { shelf_most self.new ≡ shelf_most self.old }
         ensures calls { shelf_calls self.new ≡ one_more (shelf_calls self.old) }
@@ -152,9 +153,11 @@ impl Shelf for MemShelf {
         ensures only_appends { OnlyAppends (memory_told self.old) (memory_told self.new) }
         ensures cause { HasCause (append_faults_in self.old) (append_faults_in self.new) result }
 
-        ensures fails { IsErr result ↔ (Contains (shelf_failing self.old) (one_more (shelf_calls self.old)) ⊎ (room_in self.old name.now ≡ 0)) }
+        ensures fails { IsErr result
+            ↔ (Contains (shelf_failing self.old) (one_more (shelf_calls self.old)) ⊎ (room_in self.old name.now ≡ 0)) }
         ensures counted { OnErr result (append_faults_in self.new ≡ one_more (append_faults_in self.old)) }
-        ensures count { IfOk result (λ n. n ≡ min (shelf_most self.old) (min (length bytes.now) (room_in self.old name.now))) }
+        ensures count { IfOk result (λ n.
+            n ≡ min (shelf_most self.old) (min (length bytes.now) (room_in self.old name.now))) }
         ensures room { IfOk result (λ n. room_in self.new name.now + n ≡ room_in self.old name.now) }
         ensures other_rooms { OthersStay name.now (room_in self.old) (room_in self.new) }
         ensures room_kept { OnErr result (AllStay (room_in self.old) (room_in self.new)) }

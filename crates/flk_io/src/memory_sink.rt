@@ -83,10 +83,12 @@ impl Sink for MemSink {
         ensures adds { Adds (Some (written_in self.old)) (Some (written_in self.new)) result bytes.now }
         ensures cause { HasCause (sink_faults self.old) (sink_faults self.new) result }
 
-        ensures fails { IsErr result ↔ (Contains (sink_failing self.old) (one_more (sink_calls self.old)) ⊎ (sink_room self.old ≡ 0)) }
+        ensures fails { IsErr result
+            ↔ (Contains (sink_failing self.old) (one_more (sink_calls self.old)) ⊎ (sink_room self.old ≡ 0)) }
         ensures counted { OnErr result (sink_faults self.new ≡ one_more (sink_faults self.old)) }
         ensures count { IfOk result (λ n. n ≡ min (sink_most self.old) (min (length bytes.now) (sink_room self.old))) }
-        ensures room { sink_room self.new + length (written_in self.new) ≡ sink_room self.old + length (written_in self.old) }
+        ensures room { sink_room self.new + length (written_in self.new)
+            ≡ sink_room self.old + length (written_in self.old) }
         ensures most { sink_most self.new ≡ sink_most self.old }
         ensures calls { sink_calls self.new ≡ one_more (sink_calls self.old) }
         ensures failing { sink_failing self.new ≡ sink_failing self.old }

@@ -161,8 +161,8 @@ no_lamp : (text : List ℕ) → text ≢ lamp_name L230 → text ≢ lamp_name L
 no_lamp text first second L230 e = first e
 no_lamp text first second L120 e = second e
 
-name_cases : (text : List ℕ) → ((lamp : Lamp) × (text ≡ lamp_name lamp)) ⊎ ((lamp : Lamp) → text ≢ lamp_name lamp)
-name_cases text =
+pub lamp_name_cases : (text : List ℕ) → ((lamp : Lamp) × (text ≡ lamp_name lamp)) ⊎ ((lamp : Lamp) → text ≢ lamp_name lamp)
+lamp_name_cases text =
     elim (same_text text (lamp_name L230)) [
       | inl e ↦ inl (L230, e)
       | inr first ↦ elim (same_text text (lamp_name L120)) [
@@ -177,7 +177,7 @@ lamp_in n d =
       | inl none ↦ inr (inr (λ t. no_string d none t.0 t.1))
       | inr is ↦
           let e : d ≡ string is.0 = is_string d is.0 is.1 in
-          elim (name_cases is.0) [
+          elim (lamp_name_cases is.0) [
             | inl good ↦ inl (good.0, e ∙ ap string good.1)
             | inr out ↦ inr (inl ((is.0, e), λ w. out w.0 (same_strings is.0 (lamp_name w.0) (sym e ∙ w.1))))
           ]

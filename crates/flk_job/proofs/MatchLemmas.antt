@@ -4,9 +4,7 @@ use Rattle.std.specs.Prelude.{slice_index_or}
 use Rattle.std.proofs.lemmas.Bool.{cases_lt}
 use Rattle.std.proofs.lemmas.List.{get_or_default}
 use Rattle.flk_num.specs.Lamp.{hertz_of}
-use Rattle.flk_num.specs.Rate.{samples_per_second, most_records}
-use Rattle.flk_num.specs.declared.rate.Rate.{Rate}
-use Rattle.flk_num.specs.declared.rate.Rate.TheVariants.{R2400, R4800}
+use Rattle.flk_num.specs.Rate.{most_records}
 use Rattle.flk_cfg.specs.declared.config.Config.{Config}
 use Rattle.flk_field.proofs.SetCases.{is_whole}
 use Rattle.flk_job.specs.declared.job.Job.{Job}
@@ -35,10 +33,6 @@ channel_fault j c (faults.Scale channel) h = h
 channel_fault j c (faults.Lamp hertz lf) h = absurd (h.here 0)
 channel_fault j c (faults.TooShort needed there) h = absurd (h.here 0)
 channel_fault j c (faults.TooLong limit there) h = absurd (h.here 0)
-
-pub rate_at_most : (rate : Rate) → samples_per_second rate ≤ 4800
-rate_at_most R2400 = omega arith
-rate_at_most R4800 = omega arith
 
 -- ---- the channels have a first fault, or all can be measured
 

@@ -1,5 +1,5 @@
--- The job file: which bytes write which job, and the first fault of bytes that write none. A document is what the library `toml` defines
--- of a text, by the grammar of TOML 1.1.
+-- The job file: which bytes write which job, and the first fault of bytes that write none. A document is what the
+-- library `toml` defines of a text, by the grammar of TOML 1.1.
 use Rattle.std.specs.Prelude.{◌≡◌, ℕ, ◌<◌, ◌≤◌, true, false, List, length, map, Some, None, Result, Ok, Err, pos}
 use Rattle.std.specs.Str.{IsUtf8}
 use Rattle.toml.specs.Data.{Data, string, integer, array, Members}

@@ -1,14 +1,15 @@
--- What a job asks of a configuration, and the first of it that a configuration doesn't have. The tests of one channel and of the line
--- frequency are those of flk_scale.
-use Rattle.std.specs.Prelude.{◌≡◌, ℕ, ◌+◌, ◌*◌, ◌<◌, ◌≤◌, List, length, slice_index_or}
+-- What a job asks of a configuration, and the first of it that a configuration doesn't have. The tests of one channel
+-- and of the line frequency are those of flk_scale.
+use Rattle.std.specs.Prelude.{◌≡◌, ℕ, ◌+◌, ◌<◌, ◌≤◌, List, length, slice_index_or}
 use Rattle.flk_num.specs.Lamp.{hertz_of}
-use Rattle.flk_num.specs.Rate.{samples_per_second, most_records}
+use Rattle.flk_num.specs.Rate.{most_records}
 use Rattle.flk_num.specs.declared.rate.Rate.{Rate}
 use Rattle.flk_cfg.specs.declared.config.Config.{Config}
 use Rattle.flk_scale.specs.Channel.{IsFrequencyOf}
 use Rattle.flk_scale.specs.Matching.{CanBeMeasured, IsChannelFault}
 use Rattle.flk_scale.specs.declared.fault.MatchFault.{MatchFault}
 use Rattle.flk_scale.specs.declared.fault.MatchFault.TheVariants as faults
+use Rattle.flk_job.specs.Times.{run_in_samples, interval_samples}
 use Rattle.flk_job.specs.declared.job.Job.{Job}
 
 abbrev pub AllCanBeMeasured : Config → List ℕ → Type 0
@@ -23,7 +24,7 @@ pub record IsFirstChannelFault (c : Config) (channels : List ℕ) (f : MatchFaul
 
 -- the records of the run-in and of one interval
 abbrev pub records_needed : Job → Rate → ℕ
-records_needed j rate = samples_per_second rate * (j.run_in_s + j.interval_s)
+records_needed j rate = run_in_samples j rate + interval_samples j rate
 
 -- the configuration has what the job asks for
 pub record IsMatch (j : Job) (c : Config) : Type 0 where

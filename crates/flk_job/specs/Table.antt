@@ -1,5 +1,5 @@
--- The table of a job's keys: of each its number, its name, the TOML type of its value, the set of its value, and its default. A document
--- is the members that TOML's grammar gives for a text.
+-- The table of a job's keys: of each its number, its name, the TOML type of its value, the set of its value, and its
+-- default. A document is the members that TOML's grammar gives for a text.
 use Rattle.std.specs.Prelude.{◌≡◌, ◌≢◌, ◌⊎◌, ℕ, ◌*◌, ◌<◌, ◌≤◌, Bool, true, ◌&&◌, ◌||◌, List, [], ◌∷◌, length, map, slice_index_or, codes, Option, Some, None, ℤ, pos}
 use Rattle.std.specs.Option.{option_or}
 use Rattle.std.specs.List.{All}
@@ -93,7 +93,8 @@ abbrev pub natural_in : Option Data → ℕ
 natural_in (Some (integer (pos n))) = n
 natural_in _ = 0
 
--- the nominal voltage of a document, in millivolts; where it has none, that is the first fault, and nothing rests on the 0
+-- the nominal voltage of a document, in millivolts; where it has none, that is the first fault, and nothing rests on
+-- the 0
 abbrev pub nominal_of : Members → ℕ
 nominal_of ms = natural_in (value_of ms keys.Nominal)
 

@@ -11,7 +11,7 @@ use crate::document::table_of;
 use crate::key::Key;
 use crate::kind::{Fault, JobFault};
 use crate::values::{dmax_in, integer_in, lamp_in};
-use flk_num::{Lamp, List, Stop};
+use flk_num::{Lamp, List, Rate, Stop};
 use flk_scale::Supply;
 use std::alloc::Global;
 use toml::Table;
@@ -31,6 +31,25 @@ pub struct Job {
     pub run_in_s: u16,
     /// The seconds of an interval, from 1 to 600.
     pub interval_s: u16,
+}
+
+impl Job {
+    ghost use Rattle.std.specs.Prelude.{◌≡◌};
+    ghost use Rattle.flk_job.specs.Times.{run_in_samples as samples_of_run_in, interval_samples as samples_of_interval};
+
+    /// The samples of the run-in, which come before the first interval.
+    pub fn run_in_samples(&self, rate: Rate) -> u32
+        ensures { result ≡ samples_of_run_in self.now rate }
+    {
+        rate.samples_in(self.run_in_s)
+    }
+
+    /// The samples of an interval.
+    pub fn interval_samples(&self, rate: Rate) -> u32
+        ensures { result ≡ samples_of_interval self.now rate }
+    {
+        rate.samples_in(self.interval_s)
+    }
 }
 
 // The job of a document whose keys are those of a job, or the first fault of a key.
@@ -68,10 +87,10 @@ fn read_document(alloc: Global, bytes: &[u8]) -> Result<Job, Stop<Fault>>
 
 /// The job that the bytes of a file write, a TOML document of at most 65,536 bytes.
 ///
-/// The fault is the first one in this order: a file above the limit (`Length`, key 0), bytes that are no TOML document (`Toml`, key 0), a
-/// key that isn't in the table (`Unknown`, key 0); and then, for the keys in the order of [`Key`], one without value and default
-/// (`Absent`), of another TOML type (`OtherType`), out of its set (`Range`). [`JobFault`] has the numbers. `OutOfMemory` says nothing of
-/// the bytes.
+/// The fault is the first one in this order: a file above the limit (`Length`, key 0), bytes that are no TOML document
+/// (`Toml`, key 0), a key that isn't in the table (`Unknown`, key 0); and then, for the keys in the order of [`Key`],
+/// one without value and default (`Absent`), of another TOML type (`OtherType`), out of its set (`Range`). [`JobFault`]
+/// has the numbers. `OutOfMemory` says nothing of the bytes.
 pub fn read_job(alloc: Global, bytes: &[u8]) -> Result<Job, Stop<JobFault>>
     ensures answer { IsJobAnswer bytes.now result }
     ensures sets { IfOk result AreInSets }

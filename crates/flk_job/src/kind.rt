@@ -39,8 +39,8 @@ impl Kind {
     }
 }
 
-/// The first fault of a job file: the number of its key, from 1 to 7 ([`crate::Key::number`]), and the number of its kind, from 1 to 6
-/// ([`Kind::number`]). The key is 0 where the document as a whole is at fault.
+/// The first fault of a job file: the number of its key, from 1 to 7 ([`crate::Key::number`]), and the number of its
+/// kind, from 1 to 6 ([`Kind::number`]). The key is 0 where the document as a whole is at fault.
 #[derive(Clone, Copy, Debug, PartialEq, Eq, Error)]
 #[error("job fault")]
 pub struct JobFault {

@@ -36,8 +36,8 @@ pub fn bytes_are_a_job_or_have_a_fault()
         → ((j : Value) × IsJob bytes j) ⊎ ((number : ℕ) × (kind : FaultKind) × IsFirstFault bytes number kind) }
 {}
 
-/// A configuration has what a job asks for, whose values are in their sets, or it has one fault, and never both. So `match_job` answers
-/// each fault exactly where it is the first test that fails.
+/// A configuration has what a job asks for, whose values are in their sets, or it has one fault, and never both. So
+/// `match_job` answers each fault exactly where it is the first test that fails.
 pub fn configuration_matches_or_has_one_fault()
     ensures cases { (j : Value) (c : ConfigView) → AreInSets j
         → IsMatch j c ⊎ ((f : MatchFaultView) × IsMatchFault j c f) }

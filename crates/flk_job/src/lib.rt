@@ -1,9 +1,9 @@
 //! The job: what is to be measured of a recording, and whether a configuration has it.
 //!
-//! [`read_job`] reads a job file, a TOML document: it answers the job that the document has, or its first fault. `specs/` says what that
-//! is: `Table` has the keys with their types, sets and defaults, `Job` the document, the job and the first fault. [`match_job`] tests a
-//! configuration against a job, and `Matching` has its tests in their order. The functions of [`laws`] have empty bodies: their contracts are
-//! laws of these definitions.
+//! [`read_job`] reads a job file, a TOML document: it answers the job that the document has, or its first fault.
+//! `specs/` says what that is: `Table` has the keys with their types, sets and defaults, `Job` the document, the job
+//! and the first fault. [`match_job`] tests a configuration against a job, and `Matching` has its tests in their order.
+//! The functions of [`laws`] have empty bodies: their contracts are laws of these definitions.
 #![tactic(auto)]
 
 mod channels;

@@ -23,11 +23,11 @@ fn match_channels(job: &Job, config: &Config) -> Result<(), MatchFault>
 }
 
 // The records that the run-in and one interval take.
-#[tactic(auto, using(crate::proofs::MatchLemmas::rate_at_most))]
+#[tactic(auto, using(flk_num::proofs::RateLemmas::samples_at_most))]
 fn needed_records(job: &Job, rate: Rate) -> u32
     ensures { result ≡ records_needed job.now rate }
 {
-    rate.hertz() * (u32::from(job.run_in_s) + u32::from(job.interval_s))
+    job.run_in_samples(rate) + job.interval_samples(rate)
 }
 
 // The most records.
@@ -40,12 +40,12 @@ fn limit_of(rate: Rate) -> u32
     }
 }
 
-/// Tests whether a configuration has what a job asks for, a job whose values are in their sets, as those of [`crate::read_job`] are. Takes
-/// no memory.
+/// Tests whether a configuration has what a job asks for, a job whose values are in their sets, as those of
+/// [`crate::read_job`] are. Takes no memory.
 ///
-/// The channels come first, in the job's order: `Channel`, `Unit` and `Scale` for each. `Lamp`, `TooShort` (fewer records than the run-in
-/// and one interval have at the sampling rate) and `TooLong` (above 20,000,000 records at 2400 samples a second, and above 40,000,000 at
-/// 4800) follow.
+/// The channels come first, in the job's order: `Channel`, `Unit` and `Scale` for each. `Lamp`, `TooShort` (fewer
+/// records than the run-in and one interval have at the sampling rate) and `TooLong` (above 20,000,000 records at 2400
+/// samples a second, and above 40,000,000 at 4800) follow.
 pub fn match_job(job: &Job, c: &Config) -> Result<(), MatchFault>
     requires { AreInSets job.now }
     ensures matched { OnOk result (IsMatch job.now c.now) }

@@ -1,7 +1,9 @@
 -- Intervals are what their ends are.
-use Rattle.std.proofs.Common.{◌≡◌, ℤ, ◌≤ℤ◌, subst, ap}
+use Rattle.std.proofs.Common.{◌≡◌, List, [], ◌∷◌, ℤ, ◌≤ℤ◌, subst, ap}
+use Rattle.std.specs.List.{AllZip}
 use Rattle.std.proofs.Math.Dec.{T_prop}
 use Rattle.flk_num.specs.declared.interval.Interval.{Interval}
+use Rattle.flk_num.specs.Interval.{lows, highs}
 
 abbrev made : (lo hi : ℤ) → lo ≤ℤ hi → Interval
 made lo hi ordered = record { lo = lo; hi = hi; ordered = ordered }
@@ -17,3 +19,7 @@ made_same a b c d p q low high =
 
 pub same_ends : (v w : Interval) → v.lo ≡ w.lo → v.hi ≡ w.hi → v ≡ w
 same_ends v w low high = made_same v.lo v.hi w.lo w.hi v.ordered w.ordered low high
+
+pub ends_ordered : (vs : List Interval) → AllZip ◌≤ℤ◌ (lows vs) (highs vs)
+ends_ordered [] = tt
+ends_ordered (v ∷ vs) = (v.ordered, ends_ordered vs)

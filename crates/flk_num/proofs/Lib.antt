@@ -5,3 +5,4 @@ pub mod RootLemmas
 pub mod QuotientLemmas
 pub mod IntervalLemmas
 pub mod StopLemmas
+pub mod RateLemmas

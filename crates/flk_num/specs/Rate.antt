@@ -1,5 +1,5 @@
 -- The sampling rates of the recordings that can be measured, and all that depends on them.
-use Rattle.std.specs.Prelude.{ℕ, ◌/◌, pos}
+use Rattle.std.specs.Prelude.{ℕ, ◌*◌, ◌/◌, pos}
 use Rattle.std.proofs.Common.{lit<}
 use Rattle.flk_exact.specs.Fraction.{Fraction}
 use Rattle.flk_num.specs.declared.lamp.Lamp.{Lamp}
@@ -11,6 +11,10 @@ abbrev pub samples_per_second : Rate → ℕ
 samples_per_second R2400 = 2400
 samples_per_second R4800 = 4800
 
+-- the samples of so many seconds
+abbrev pub samples_in : Rate → (seconds : ℕ) → ℕ
+samples_in rate seconds = samples_per_second rate * seconds
+
 -- the seconds between two samples
 abbrev pub sampling_interval : Rate → Fraction
 sampling_interval R2400 = record { num = pos 1; den = 2400; positive = lit< tt }
@@ -20,7 +24,8 @@ sampling_interval R4800 = record { num = pos 1; den = 4800; positive = lit< tt }
 abbrev pub half_at : Lamp → Rate → ℕ
 half_at lamp rate = samples_per_second rate / window_of lamp
 
--- A sample counts for one part in 2^e in the input voltage adaptor's mean: a time constant of 2^e samples, which is about 27.3 s.
+-- A sample counts for one part in 2^e in the input voltage adaptor's mean: a time constant of 2^e samples, which is
+-- about 27.3 s.
 abbrev pub adaptor_exponent : Rate → ℕ
 adaptor_exponent R2400 = 16
 adaptor_exponent R4800 = 17

@@ -1,7 +1,8 @@
-//! Whole-number arithmetic of intervals: quotients and roots rounded down and up, cube roots rounded up, and exact squares.
+//! Whole-number arithmetic of intervals: quotients and roots rounded down and up, cube roots rounded up, and exact
+//! squares.
 //!
-//! Every number is a whole number of some fixed unit, which the caller knows, and every call answers the stated rounding
-//! exactly. No such call takes memory or refuses anything.
+//! Every number is a whole number of some fixed unit, which the caller knows, and every call answers the stated
+//! rounding exactly. No such call takes memory or refuses anything.
 //!
 //! Four types that the crates above share stand here too: [`List`], [`Stop`], [`Lamp`] and [`Rate`].
 #![tactic(auto)]

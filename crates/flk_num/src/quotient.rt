@@ -1,5 +1,5 @@
-//! Quotients, rounded down and up. The numbers are in any units: a quotient is in the unit of the dividend over that of the
-//! divisor.
+//! Quotients, rounded down and up. The numbers are in any units: a quotient is in the unit of the dividend over that of
+//! the divisor.
 
 ghost use Rattle.std.specs.Prelude.{◌≡◌, ◌+◌, ◌*◌, ◌^◌, ◌<◌, ◌≤◌, pos, ◌*ℤ◌, ◌≤ℤ◌, ◌<ℤ◌};
 ghost use Rattle.std.specs.Int.RustNames.{unsigned_abs};
@@ -40,8 +40,9 @@ fn shifted(a: i128, shift: u32) -> i128
     a << shift
 }
 
-/// The least of the quotients `x * 2^shift / y`, rounded down, and the greatest, rounded up, for every x of the interval `a` and
-/// every y of `b`. `a` is not below 0 and `b` is positive; `shift` is at most 64, and `a.hi * 2^shift` is below 2^126.
+/// The least of the quotients `x * 2^shift / y`, rounded down, and the greatest, rounded up, for every x of the
+/// interval `a` and every y of `b`. `a` is not below 0 and `b` is positive; `shift` is at most 64, and `a.hi * 2^shift`
+/// is below 2^126.
 pub fn quotient_out(a: Interval, b: Interval, shift: u32) -> Interval
     requires a_low { pos 0 ≤ℤ a.lo }
     requires a_high { (a.hi *ℤ pos (2 ^ shift)) <ℤ pos (2 ^ 126) }
@@ -124,8 +125,8 @@ fn signed(m: u128) -> i128
     m as i128
 }
 
-/// `v * num / den`, rounded down, in the unit of `v`. `v` and the result are below 2^126 in size, `num` is from 0 to below
-/// 2^64, and `den` is positive and below 2^96. The product may need 190 bits.
+/// `v * num / den`, rounded down, in the unit of `v`. `v` and the result are below 2^126 in size, `num` is from 0 to
+/// below 2^64, and `den` is positive and below 2^96. The product may need 190 bits.
 pub fn scaled_floor(v: i128, num: i128, den: i128) -> i128
     requires v_small { unsigned_abs v < 2 ^ 126 }
     requires num_low { pos 0 ≤ℤ num }

@@ -1,7 +1,7 @@
 //! The sampling rates of the recordings that can be measured.
 
 ghost use Rattle.std.specs.Prelude.{◌≡◌};
-ghost use Rattle.flk_num.specs.Rate.{samples_per_second};
+ghost use Rattle.flk_num.specs.Rate.{samples_per_second, samples_in as samples_of};
 
 /// The sampling rate of a recording. All that depends on it stands in `specs/Rate`.
 #[derive(Clone, Copy, Debug, PartialEq, Eq)]
@@ -21,5 +21,13 @@ impl Rate {
             Rate::R2400 => 2400,
             Rate::R4800 => 4800,
         }
+    }
+
+    /// The samples of so many seconds.
+    #[tactic(auto, using(crate::proofs::RateLemmas::samples_at_most))]
+    pub fn samples_in(&self, seconds: u16) -> u32
+        ensures { result ≡ samples_of self.now seconds }
+    {
+        self.hertz() * u32::from(seconds)
     }
 }

@@ -13,8 +13,8 @@ fn power_above(v: u64) -> u64
     1 << ((65 - v.leading_zeros()) / 2)
 }
 
-// Newton's step from `x`: the mean of `x` and `v / x`. It is never below the root, and at least `x` only where `x` is not
-// above it.
+// Newton's step from `x`: the mean of `x` and `v / x`. It is never below the root, and at least `x` only where `x` is
+// not above it.
 fn newton_step(v: u64, x: u64) -> u64
     requires some { 0 < x }
     requires small { x ≤ 2 ^ 32 }
@@ -42,8 +42,8 @@ fn word_root(v: u64) -> u64
     root
 }
 
-/// The root of `v`, rounded down: the greatest whole number whose square is at most `v`, which is from 0 to below 2^126. `v`
-/// is in squares of the result's unit.
+/// The root of `v`, rounded down: the greatest whole number whose square is at most `v`, which is from 0 to below
+/// 2^126. `v` is in squares of the result's unit.
 pub fn root_floor(v: i128) -> i128
     requires low { pos 0 ≤ℤ v }
     requires high { v <ℤ pos (2 ^ 126) }
@@ -56,8 +56,8 @@ pub fn root_floor(v: i128) -> i128
     }
 }
 
-/// The root of `v`, rounded up: the least whole number of 0 or more whose square is at least `v`, which is from 0 to below
-/// 2^126. `v` is in squares of the result's unit.
+/// The root of `v`, rounded up: the least whole number of 0 or more whose square is at least `v`, which is from 0 to
+/// below 2^126. `v` is in squares of the result's unit.
 pub fn root_ceil(v: i128) -> i128
     requires low { pos 0 ≤ℤ v }
     requires high { v <ℤ pos (2 ^ 126) }
@@ -97,8 +97,8 @@ fn natural_cube_root(v: u128) -> u64
     high
 }
 
-/// The cube root of `v`, rounded up: the least whole number of 0 or more whose cube is at least `v`, which is from 0 to below
-/// 2^126. `v` is in cubes of the result's unit.
+/// The cube root of `v`, rounded up: the least whole number of 0 or more whose cube is at least `v`, which is from 0 to
+/// below 2^126. `v` is in cubes of the result's unit.
 pub fn cube_root_ceil(v: i128) -> i128
     requires low { pos 0 ≤ℤ v }
     requires high { v <ℤ pos (2 ^ 126) }

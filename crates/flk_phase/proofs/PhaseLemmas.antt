@@ -1,18 +1,15 @@
 -- What one more sample does to a phase.
-use Rattle.std.proofs.Common.{◌≡◌, ℕ, ◌+◌, Bool, List, [], ◌∷◌, ◌++◌, length, map, ℤ, pos, reverse, sym, subst, ap, ◌∙◌, arith, length-append, ⊎_elim}
-use Rattle.std.proofs.lemmas.Bool.{cases_lt}
-use Rattle.std.proofs.lemmas.List.{map-append, get_or_append_left}
-use Rattle.std.proofs.Math.Seq.{get_or-append_seam}
-use Rattle.flk_exact.specs.Fraction.{Fraction, whole}
+use Rattle.std.proofs.Common.{◌≡◌, ℕ, ◌+◌, Bool, List, [], ◌∷◌, ◌++◌, map, ℤ, reverse, sym, subst, ap, ◌∙◌, arith, length-append}
+use Rattle.std.proofs.lemmas.List.{map-append}
 use Rattle.flk_exact.proofs.ListLemmas.{AllZip-push, reverse-push}
 use Rattle.flk_num.specs.declared.interval.Interval.{Interval}
 use Rattle.flk_scale.specs.declared.scale.Scale.{Scale}
 use Rattle.flk_scale.specs.Scale.{voltage_of, nominal_of, uncertainty_of}
 use Rattle.flk_scale.specs.Voltage.{is_below_zero, IsVoltageInterval, IsOverRange}
-use Rattle.flk_scale.specs.Range.{voltage_at, IsWithinRange}
+use Rattle.flk_scale.proofs.RangeLemmas.{within_more}
 use Rattle.flk_section.specs.declared.whole.Whole.{Whole}
 use Rattle.flk_section.specs.Whole.{numbers_of}
-use Rattle.flk_result.specs.Conditions.{Conditions, conditions_of as conditions_by}
+use Rattle.flk_result.specs.Conditions.{Conditions, conditions_for}
 use Rattle.flk_result.specs.declared.result.Setup.{Setup}
 use Rattle.flk_result.specs.Promise.{IsFilterOf}
 use Rattle.flk_phase.specs.declared.meter.Meter.{Meter}
@@ -22,29 +19,16 @@ use Rattle.flk_phase.specs.Meter.{StandsFor as MeterStandsFor}
 use Rattle.flk_phase.specs.Severities.{StandsFor as SeveritiesStandFor}
 use Rattle.flk_phase.specs.Phase.{whole_of, conditions_of, told_by, Stands}
 
--- ---- no voltage over range
-
--- one voltage more
-within_more : (nominal : ℕ) (recorded : List Fraction) (v : Fraction) → IsWithinRange nominal recorded → ¬ IsOverRange nominal v → IsWithinRange nominal (recorded ++ v ∷ [])
-within_more nominal recorded v within fine = λ k less over.
-    ⊎_elim
-    (λ before. within k before (subst (IsOverRange nominal) (get_or_append_left recorded (v ∷ []) (whole (pos 0)) k before) over))
-    (λ last.
-    let here : k ≡ length recorded = omega (arith, less, last, length-append recorded (v ∷ [])) in
-    let same : voltage_at (recorded ++ v ∷ []) k ≡ v = ap (voltage_at (recorded ++ v ∷ [])) here ∙ get_or-append_seam recorded v [] (whole (pos 0)) in
-    fine (subst (IsOverRange nominal) same over))
-    (cases_lt k (length recorded))
-
 -- ---- one sample more
 
 pub moved_filter : (c d : Conditions) (w v : Whole) → d ≡ c → v ≡ w → IsFilterOf c w → IsFilterOf d v
 moved_filter c d w v same alike h = subst (λ (b : Whole). IsFilterOf d b) (sym alike) (subst (λ (b : Conditions). IsFilterOf b w) (sym same) h)
 
 same_conditions : (s t : Setup) (w v : Whole) (a b : Scale) → t ≡ s → v ≡ w → b ≡ a
-    → conditions_by t (numbers_of v) (nominal_of b) (uncertainty_of b) ≡ conditions_by s (numbers_of w) (nominal_of a) (uncertainty_of a)
+    → conditions_for t (numbers_of v) (nominal_of b) (uncertainty_of b) ≡ conditions_for s (numbers_of w) (nominal_of a) (uncertainty_of a)
 same_conditions s t w v a b setup bound scale =
-    ap (λ (x : Setup). conditions_by x (numbers_of v) (nominal_of b) (uncertainty_of b)) setup
-    ∙ (ap (λ (x : Whole). conditions_by s (numbers_of x) (nominal_of b) (uncertainty_of b)) bound ∙ ap (λ (x : Scale). conditions_by s (numbers_of w) (nominal_of x) (uncertainty_of x)) scale)
+    ap (λ (x : Setup). conditions_for x (numbers_of v) (nominal_of b) (uncertainty_of b)) setup
+    ∙ (ap (λ (x : Whole). conditions_for s (numbers_of x) (nominal_of b) (uncertainty_of b)) bound ∙ ap (λ (x : Scale). conditions_for s (numbers_of w) (nominal_of x) (uncertainty_of x)) scale)
 
 pub conditions_stay : (old new : Phase) → new.scale ≡ old.scale → new.setup ≡ old.setup → whole_of new ≡ whole_of old → conditions_of new ≡ conditions_of old
 conditions_stay old new scale setup bound = same_conditions old.setup new.setup (whole_of old) (whole_of new) old.scale new.scale setup bound scale

@@ -1,7 +1,7 @@
 -- What one more level does to the severities of a channel.
 use Rattle.std.proofs.Common.{◌≡◌, ◌≢◌, ℕ, ◌+◌, ◌-◌, ◌*◌, ◌<◌, ◌≤◌, List, [], ◌∷◌, ◌++◌, length, get_or, drop, take, ℤ, pos, ◌≤ℤ◌, sym, subst, ap, ◌∙◌, arith, length-append, length-drop, ⊎_elim}
 use Rattle.std.specs.Prelude.{slice_index_or, slice_set}
-use Rattle.std.specs.List.{All, AllZip}
+use Rattle.std.specs.List.{All}
 use Rattle.std.proofs.lemmas.Bool.{cases_lt}
 use Rattle.std.proofs.lemmas.Int.{ints}
 use Rattle.std.proofs.lemmas.List.{drop-append-le, take_all, get_or-set_same, get_or-set_other, length-map}
@@ -13,16 +13,17 @@ use Rattle.flk_exact.proofs.ListLemmas.{slice_range-append}
 use Rattle.flk_num.specs.declared.interval.Interval.{Interval}
 use Rattle.flk_num.specs.Interval.{lows, highs}
 use Rattle.flk_stat.specs.Severity.{cap}
+use Rattle.flk_result.specs.Conditions.{interval_items}
 use Rattle.flk_result.specs.Digits.{IsSeverityInterval}
 use Rattle.flk_result.specs.PhaseResult.{zero_interval, IsJudgeable}
 use Rattle.flk_phase.specs.declared.severities.Severities.{Severities}
-use Rattle.flk_phase.specs.Severities.{Gains, Ends, part_of, StandsFor}
+use Rattle.flk_phase.specs.Severities.{Gains, Ends, StandsFor}
 
 -- ---- the parts of a list of levels
 
 -- the levels of an interval that is whole stay
 part_kept : (run_in interval done i : ℕ) (levels : List Interval) (x : Interval) → i < done → run_in + done * interval ≤ length levels
-    → part_of run_in interval i (levels ++ x ∷ []) ≡ part_of run_in interval i levels
+    → interval_items run_in interval i (levels ++ x ∷ []) ≡ interval_items run_in interval i levels
 part_kept run_in interval done i levels x low within =
     let before : i + 1 ≤ done = omega arith in
     let enough = mul-le-mul_right interval before in
@@ -34,7 +35,7 @@ rest_more start levels x within = drop-append-le start levels (x ∷ []) within
 
 -- the levels of an interval that has just become whole
 part_whole : (run_in interval done : ℕ) (levels newest : List Interval) (x : Interval) → run_in + done * interval ≤ length levels → newest ≡ drop (run_in + done * interval) levels
-    → length newest + 1 ≡ interval → part_of run_in interval done (levels ++ x ∷ []) ≡ newest ++ x ∷ []
+    → length newest + 1 ≡ interval → interval_items run_in interval done (levels ++ x ∷ []) ≡ newest ++ x ∷ []
 part_whole run_in interval done levels newest x within is full =
     let start = run_in + done * interval in
     let rest : drop start (levels ++ x ∷ []) ≡ newest ++ x ∷ [] = rw is (rest_more start levels x within) in
@@ -48,7 +49,7 @@ length_by start levels newest within is = omega (arith, within, ap length is, le
 -- ---- one level more
 
 severities_kept : (s : Severities) (run_in interval count : ℕ) (levels : List Interval) (x : Interval) → run_in ≤ length levels → StandsFor s run_in interval count levels
-    → (i : ℕ) → i < s.done → IsSeverityInterval (part_of run_in interval i (levels ++ x ∷ [])) (slice_index_or s.pst i zero_interval)
+    → (i : ℕ) → i < s.done → IsSeverityInterval (interval_items run_in interval i (levels ++ x ∷ [])) (slice_index_or s.pst i zero_interval)
 severities_kept s run_in interval count levels x past h i low =
     let same = part_kept run_in interval s.done i levels x low (h.reached past) in
     subst (λ ls. IsSeverityInterval ls (slice_index_or s.pst i zero_interval)) (sym same) (h.severities i low)
@@ -93,8 +94,8 @@ stands_gains old new run_in interval count levels x none left kept done pst open
       newest = h.newest ++ x ∷ [];
       added = gains.added interval h.newest h.added;
       newest_is = λ again. rw done is;
-      severities = subst (λ (n : ℕ). (i : ℕ) → i < n → IsSeverityInterval (part_of run_in interval i (levels ++ x ∷ [])) (slice_index_or new.pst i zero_interval)) (sym done)
-          (subst (λ (p : List Interval). (i : ℕ) → i < old.done → IsSeverityInterval (part_of run_in interval i (levels ++ x ∷ [])) (slice_index_or p i zero_interval)) (sym pst) each);
+      severities = subst (λ (n : ℕ). (i : ℕ) → i < n → IsSeverityInterval (interval_items run_in interval i (levels ++ x ∷ [])) (slice_index_or new.pst i zero_interval)) (sym done)
+          (subst (λ (p : List Interval). (i : ℕ) → i < old.done → IsSeverityInterval (interval_items run_in interval i (levels ++ x ∷ [])) (slice_index_or p i zero_interval)) (sym pst) each);
       none_after = subst (λ (n : ℕ). (i : ℕ) → n ≤ i → i < 12 → slice_index_or new.pst i zero_interval ≡ zero_interval) (sym done)
           (subst (λ (p : List Interval). (i : ℕ) → old.done ≤ i → i < 12 → slice_index_or p i zero_interval ≡ zero_interval) (sym pst) h.none_after);
     }
@@ -126,11 +127,11 @@ stands_ends old new run_in interval count levels x v none left kept done pst ope
           (λ before.
           let other : i ≢ old.done = omega (arith, before) in
           let same : slice_index_or new.pst i zero_interval ≡ slice_index_or old.pst i zero_interval = rw pst (get_or-set_other old.pst old.done i v zero_interval other) in
-          subst (IsSeverityInterval (part_of run_in interval i (levels ++ x ∷ []))) (sym same) (severities_kept old run_in interval count levels x past h i before))
+          subst (IsSeverityInterval (interval_items run_in interval i (levels ++ x ∷ []))) (sym same) (severities_kept old run_in interval count levels x past h i before))
           (λ last.
           let here : i ≡ old.done = omega (arith, low, done, last) in
           let value : slice_index_or new.pst old.done zero_interval ≡ v = rw pst (get_or-set_same old.pst old.done v zero_interval place) in
-          subst (λ (n : ℕ). IsSeverityInterval (part_of run_in interval n (levels ++ x ∷ [])) (slice_index_or new.pst n zero_interval)) (sym here)
+          subst (λ (n : ℕ). IsSeverityInterval (interval_items run_in interval n (levels ++ x ∷ [])) (slice_index_or new.pst n zero_interval)) (sym here)
           (subst (λ ls. IsSeverityInterval ls (slice_index_or new.pst old.done zero_interval)) (sym part) (subst (IsSeverityInterval (h.newest ++ x ∷ [])) (sym value) severity)))
           (cases_lt i old.done);
       none_after = λ i late low.
@@ -149,10 +150,6 @@ lows_in_range vs all = All-map (IsBetween (pos 0) cap) (λ (v : Interval). v.lo)
 
 pub highs_in_range : (vs : List Interval) → All IsJudgeable vs → All (IsBetween (pos 0) cap) (highs vs)
 highs_in_range vs all = All-map (IsBetween (pos 0) cap) (λ (v : Interval). v.hi) vs (λ k d low. let v = all k d low in in_range (get_or vs k d).hi (omega (arith, ints, v.low, (get_or vs k d).ordered)) v.high)
-
-pub ends_ordered : (vs : List Interval) → AllZip ◌≤ℤ◌ (lows vs) (highs vs)
-ends_ordered [] = tt
-ends_ordered (v ∷ vs) = (v.ordered, ends_ordered vs)
 
 -- ---- at the end
 

@@ -11,7 +11,7 @@ use Rattle.flk_section.specs.declared.whole.Whole.{Whole}
 use Rattle.flk_section.specs.Whole.{numbers_of}
 use Rattle.flk_dat.specs.Records.{DataRecord}
 use Rattle.flk_result.specs.declared.result.Setup.{Setup}
-use Rattle.flk_result.specs.Conditions.{Conditions, conditions_of as conditions_by}
+use Rattle.flk_result.specs.Conditions.{Conditions, conditions_for}
 use Rattle.flk_result.specs.Promise.{IsFilterOf}
 use Rattle.flk_phase.specs.declared.phase.Phase.{Phase}
 use Rattle.flk_phase.specs.Halves.{spare_of as spare_of_halves, StandsFor as HalvesStandFor}
@@ -32,7 +32,7 @@ whole_of p = whole_of_meter p.meter
 
 -- what its result depends on beside the samples
 abbrev pub conditions_of : Phase → Conditions
-conditions_of p = conditions_by p.setup (numbers_of (whole_of p)) (nominal_of p.scale) (uncertainty_of p.scale)
+conditions_of p = conditions_for p.setup (numbers_of (whole_of p)) (nominal_of p.scale) (uncertainty_of p.scale)
 
 -- how many samples it took
 abbrev pub taken_of : Phase → ℕ
@@ -60,7 +60,7 @@ pub record IsMadeFor (p : Phase) (scale : Scale) (channel : ℕ) (setup : Setup)
   pub channel_is : channel_of p ≡ channel
   pub whole_is : whole_of p ≡ whole
   pub conditions_are : conditions_of p
-      ≡ conditions_by setup (numbers_of whole) (nominal_of scale) (uncertainty_of scale)
+      ≡ conditions_for setup (numbers_of whole) (nominal_of scale) (uncertainty_of scale)
   pub nothing : taken_of p ≡ 0
   pub room : spare_of p ≡ 0
   pub none_over : over_of p ≡ None

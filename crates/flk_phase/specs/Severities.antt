@@ -1,9 +1,10 @@
 -- What the state of the severities of a channel stands for. Lists are in the order of time, and have one level for each
 -- sample.
-use Rattle.std.specs.Prelude.{◌≡◌, ℕ, ◌+◌, ◌-◌, ◌*◌, ◌<◌, ◌≤◌, List, [], ◌∷◌, ◌++◌, length, drop, slice_range, slice_index_or}
+use Rattle.std.specs.Prelude.{◌≡◌, ℕ, ◌+◌, ◌-◌, ◌*◌, ◌<◌, ◌≤◌, List, [], ◌∷◌, ◌++◌, length, drop, slice_index_or}
 use Rattle.flk_num.specs.declared.interval.Interval.{Interval}
 use Rattle.flk_stat.specs.declared.levels.Levels.{Levels}
 use Rattle.flk_stat.specs.Levels.{Added, room_of}
+use Rattle.flk_result.specs.Conditions.{interval_items}
 use Rattle.flk_result.specs.Digits.{IsSeverityInterval}
 use Rattle.flk_result.specs.PhaseResult.{zero_interval, IsJudgeable}
 use Rattle.flk_phase.specs.declared.severities.Severities.{Severities}
@@ -28,10 +29,6 @@ severities_in s = s.pst
 abbrev pub count_of : Severities → ℕ
 count_of s = s.count
 
--- the levels of interval i, from 0
-abbrev pub part_of : (run_in interval i : ℕ) → List Interval → List Interval
-part_of run_in interval i levels = slice_range levels (run_in + i * interval) (run_in + (i + 1) * interval)
-
 -- The state stands for these levels, where so many belong to the run-in and to an interval, and so many intervals are
 -- judged: of the intervals that have all their levels it has the severities, and of the next one the levels so far.
 pub record StandsFor (s : Severities) (run_in interval count : ℕ) (levels : List Interval) : Type 0 where
@@ -43,5 +40,5 @@ pub record StandsFor (s : Severities) (run_in interval count : ℕ) (levels : Li
   pub added : Added s.levels interval newest
   pub newest_is : s.done < count → newest ≡ drop (run_in + s.done * interval) levels
   pub severities : (i : ℕ) → i < s.done
-      → IsSeverityInterval (part_of run_in interval i levels) (slice_index_or s.pst i zero_interval)
+      → IsSeverityInterval (interval_items run_in interval i levels) (slice_index_or s.pst i zero_interval)
   pub none_after : (i : ℕ) → s.done ≤ i → i < 12 → slice_index_or s.pst i zero_interval ≡ zero_interval

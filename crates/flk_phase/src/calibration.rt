@@ -1,5 +1,5 @@
-//! The flickermeter at the sine of 8.8 Hz by which IEC 61000-4-15 is calibrated: at 230 V and 50 Hz a relative change of 0.250 percent from
-//! trough to peak gives an instantaneous flicker sensation of 1 at its peaks.
+//! The flickermeter at the sine of 8.8 Hz by which IEC 61000-4-15 is calibrated: at 230 V and 50 Hz a relative change
+//! of 0.250 percent from trough to peak gives an instantaneous flicker sensation of 1 at its peaks.
 
 ghost use Rattle.flk_num.specs.Interval.{IsSmall};
 

@@ -44,7 +44,8 @@ judged_long_term (Some v) = judged_by plt_limit v ∷ []
 
 -- the judged lines of a channel: dc, dmax, Tmax, one Pst for each interval, and Plt where it stands
 abbrev pub judged_lines : Job → PhaseResult → List JudgedLine
-judged_lines j r = judged_changes j r.changes ++ (map (judged_by pst_limit) (take r.count r.pst) ++ judged_long_term r.plt)
+judged_lines j r =
+    judged_changes j r.changes ++ (map (judged_by pst_limit) (take r.count r.pst) ++ judged_long_term r.plt)
 
 -- ---- the same quantities of one exact run
 

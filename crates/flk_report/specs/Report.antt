@@ -1,6 +1,6 @@
 -- The text of a report. Values are from 0, in billionths, and written with nine digits after the point; Tmax counts
 -- half-periods. (Appended from the right, as a format is.)
-use Rattle.std.specs.Prelude.{ℕ, suc, ◌-◌, ◌*◌, ◌/◌, min, ◌&&◌, nat_eq, if◌then◌else◌, List, [], ◌∷◌, ◌++◌, take, Option, Some, None, codes, ℤ}
+use Rattle.std.specs.Prelude.{ℕ, suc, ◌-◌, ◌/◌, min, ◌&&◌, nat_eq, if◌then◌else◌, List, [], ◌∷◌, ◌++◌, take, Option, Some, None, codes, ℤ}
 use Rattle.std.specs.Int.RustNames.{unsigned_abs}
 use Rattle.std.specs.Fmt.{decimal}
 use Rattle.flk_num.specs.declared.interval.Interval.{Interval}
@@ -9,6 +9,7 @@ use Rattle.flk_num.specs.Rate.{samples_per_second}
 use Rattle.flk_text.specs.Billionths.{billionths, ends_text}
 use Rattle.flk_change.specs.declared.summary.ChangeSummary.{ChangeSummary}
 use Rattle.flk_job.specs.Table.{lamp_name}
+use Rattle.flk_job.specs.Times.{run_in_samples, interval_samples}
 use Rattle.flk_job.specs.declared.job.Job.{Job}
 use Rattle.flk_result.specs.declared.result.PhaseResult.{PhaseResult}
 use Rattle.flk_report.specs.Limits.{dc_limit, dmax_limit, tmax_limit, pst_limit, plt_limit}
@@ -18,7 +19,7 @@ use Rattle.flk_report.specs.declared.verdict.Verdict.{Verdict}
 -- the intervals that are judged: the first twelve whole ones after the run-in
 abbrev pub interval_count : Job → Rate → (records : ℕ) → ℕ
 interval_count j rate records =
-    min 12 ((records - samples_per_second rate * j.run_in_s) / (samples_per_second rate * j.interval_s))
+    min 12 ((records - run_in_samples j rate) / interval_samples j rate)
 
 -- the times are those of the standard: a run-in of 60 seconds, and intervals of ten minutes
 abbrev pub form_name : Job → List ℕ
@@ -34,7 +35,8 @@ value_line name v limit =
 abbrev pub count_line : List ℕ → Interval → (limit : ℤ) → List ℕ
 count_line name v limit =
     name ++ (codes " " ++ (decimal (unsigned_abs v.lo) ++ (codes " to " ++ (decimal (unsigned_abs v.hi)
-    ++ (codes " limit " ++ (decimal (unsigned_abs limit) ++ (codes " " ++ (verdict_name (verdict_of v limit) ++ codes "\n"))))))))
+    ++ (codes " limit " ++ (decimal (unsigned_abs limit) ++ (codes " "
+    ++ (verdict_name (verdict_of v limit) ++ codes "\n"))))))))
 
 -- the severity of the interval with this number, which counts from 1
 abbrev pub severity_line : (number : ℕ) → Interval → List ℕ

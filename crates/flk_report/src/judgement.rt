@@ -51,9 +51,10 @@ fn channel_verdict(job: &Job, channel: &PhaseResult) -> Verdict
     }
 }
 
-/// The verdict on the results of all selected channels (IEC 61000-3-3, clause 5). Each judged line has the verdict of [`judge`]: dc, dmax,
-/// Tmax, the Pst of each judged interval, and Plt where it stands. The verdict on all of them is Fail exactly where one fails, Undecided
-/// exactly where none fails and one is undecided, and Pass exactly where each passes, as where there is no result. Takes no memory.
+/// The verdict on the results of all selected channels (IEC 61000-3-3, clause 5). Each judged line has the verdict of
+/// [`judge`]: dc, dmax, Tmax, the Pst of each judged interval, and Plt where it stands. The verdict on all of them is
+/// Fail exactly where one fails, Undecided exactly where none fails and one is undecided, and Pass exactly where each
+/// passes, as where there is no result. Takes no memory.
 ///
 /// It is the verdict on every exact run of all channels whose quantities the results hold.
 pub fn overall(job: &Job, results: &[PhaseResult]) -> Verdict

@@ -2,8 +2,8 @@
 //!
 //! [`judge`] compares the interval of one quantity with its limit, [`overall`] joins the verdicts of all judged lines,
 //! and [`report_text`] composes the report. A verdict speaks of every exact quantity that the intervals hold. In
-//! `specs/`, `Limits` has the limits and the judged lines, `Verdict` says when each verdict is given and what it says of
-//! a run, and `Report` has the text.
+//! `specs/`, `Limits` has the limits and the judged lines, `Verdict` says when each verdict is given and what it says
+//! of a run, and `Report` has the text.
 #![tactic(auto)]
 
 mod judgement;

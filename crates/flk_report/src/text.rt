@@ -29,9 +29,7 @@ pub fn interval_count(job: &Job, rate: Rate, records: u32) -> u8
     requires { AreInSets job.now }
     ensures { result ≡ count_of job.now rate records }
 {
-    let run_in = rate.hertz() * u32::from(job.run_in_s);
-    let interval = rate.hertz() * u32::from(job.interval_s);
-    let whole = records.saturating_sub(run_in) / interval;
+    let whole = records.saturating_sub(job.run_in_samples(rate)) / job.interval_samples(rate);
     whole.min(MOST_INTERVALS) as u8
 }
 
@@ -182,8 +180,8 @@ fn channels_text(alloc: Global, job: &Job, results: &[PhaseResult]) -> Result<St
 }
 
 /// The text of the report of a job on a recording of so many records: what it is of, the judged lines of each channel
-/// in the job's order, and the verdict of [`overall`]. It needs one result for each channel of the job, each with as many
-/// intervals as [`interval_count`] says. `OutOfMemory` says nothing of them.
+/// in the job's order, and the verdict of [`overall`]. It needs one result for each channel of the job, each with as
+/// many intervals as [`interval_count`] says. `OutOfMemory` says nothing of them.
 pub fn report_text(
     alloc: Global,
     job: &Job,

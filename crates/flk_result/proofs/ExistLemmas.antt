@@ -1,28 +1,20 @@
 -- Recorded voltages that are enough have a result.
-use Rattle.std.proofs.Common.{◌≡◌, ℕ, ◌*◌, ◌^◌, ◌<◌, ◌≤◌, List, length, map, pos, ◌+ℤ◌, ◌-ℤ◌, ◌*ℤ◌, ◌≤ℤ◌, Option, Some, None, refl, sym, subst, arith, ⊎_elim}
+use Rattle.std.proofs.Common.{◌≡◌, ℕ, ◌<◌, ◌≤◌, List, length, map, Option, Some, None, refl, sym, subst, arith, ⊎_elim}
 use Rattle.std.specs.Prelude.{reverse}
-use Rattle.std.specs.List.{AllZip}
-use Rattle.std.proofs.Math.Nat.{mul-pos}
 use Rattle.std.proofs.lemmas.Bool.{cases_lt}
-use Rattle.std.proofs.lemmas.Int.{ints}
 use Rattle.std.proofs.lemmas.List.{reverse-reverse, length-map, length-reverse}
 use Rattle.flk_exact.specs.Fraction.{Fraction, units}
-use Rattle.flk_exact.specs.Rounding.{floor_of, ceil_of}
-use Rattle.flk_exact.proofs.WholeLemmas.{scale_≤, cancel_≤, ≤ℤ_trans}
-use Rattle.flk_exact.proofs.RoundingLemmas.{IsFloor-floor_of, IsCeil-ceil_of}
 use Rattle.flk_exact.proofs.ListLemmas.{AllZip-exists, AllZip-length}
 use Rattle.flk_exact.proofs.CutLemmas.{cuts_exist}
 use Rattle.flk_num.specs.declared.interval.Interval.{Interval}
-use Rattle.flk_num.specs.declared.lamp.Lamp.{Lamp}
-use Rattle.flk_num.specs.declared.lamp.Lamp.TheVariants.{L230, L120}
-use Rattle.flk_num.specs.declared.rate.Rate.{Rate}
-use Rattle.flk_num.specs.declared.rate.Rate.TheVariants.{R2400, R4800}
 use Rattle.flk_num.specs.Interval.{lows, highs}
-use Rattle.flk_num.specs.Rate.{half_at, adaptor_exponent, smoothing_number}
+use Rattle.flk_num.specs.Rate.{adaptor_exponent, smoothing_number}
+use Rattle.flk_num.proofs.RateLemmas.{half_some}
+use Rattle.flk_num.proofs.IntervalLemmas.{ends_ordered}
 use Rattle.flk_scale.specs.Voltage.{is_below_zero, IsVoltageInterval}
+use Rattle.flk_scale.proofs.VoltageLemmas.{voltage_exists}
 use Rattle.flk_half.proofs.IntervalsLemmas.{intervals_exist}
 use Rattle.flk_change.specs.declared.flag.Flag.{Flag}
-use Rattle.flk_change.proofs.ValueLemmas.{held_below, lows_are_held}
 use Rattle.flk_change.proofs.FlagsLemmas.{flags_exist}
 use Rattle.flk_change.proofs.SummaryLemmas.{summary_exists}
 use Rattle.flk_front.proofs.AdaptorLaws.{ArePoints-exists}
@@ -39,26 +31,7 @@ use Rattle.flk_result.specs.Digits.{AreSteps, IsSeverityInterval, IsLongTermEnds
 use Rattle.flk_result.proofs.LengthLemmas.{points_length, answers_length, intervals_length, interval_some, list_by_index}
 use Rattle.flk_result.proofs.HoldLemmas.{window_some}
 
-pub half_some : (lamp : Lamp) (rate : Rate) → 0 < half_at lamp rate
-half_some L230 R2400 = omega arith
-half_some L230 R4800 = omega arith
-half_some L120 R2400 = omega arith
-half_some L120 R4800 = omega arith
-
 -- ---- the steps
-
-voltage_exists : (nominal uncertainty : ℕ) (r : Fraction) → 0 < nominal → (v : Interval) × IsVoltageInterval nominal uncertainty r v
-voltage_exists nominal uncertainty r some =
-    let base = 1000 * nominal * r.den in
-    let positive : 0 < base = mul-pos (omega (arith, some)) r.positive in
-    let below = (r.num -ℤ pos (uncertainty * r.den)) *ℤ pos (2 ^ 48) in
-    let above = (r.num +ℤ pos (uncertainty * r.den)) *ℤ pos (2 ^ 48) in
-    let floor = IsFloor-floor_of below base positive in
-    let ceil = IsCeil-ceil_of above base positive in
-    let between : below ≤ℤ above = scale_≤ (r.num -ℤ pos (uncertainty * r.den)) (r.num +ℤ pos (uncertainty * r.den)) (2 ^ 48) (omega (arith, ints)) in
-    let ordered = cancel_≤ (floor_of below (pos base)) (ceil_of above (pos base)) base positive (≤ℤ_trans floor.within (≤ℤ_trans between ceil.within)) in
-    let v : Interval = record { lo = floor_of below (pos base); hi = ceil_of above (pos base); ordered = ordered } in
-    (v, record { down = floor; up = ceil })
 
 pub record Steps (c : Conditions) (recorded : List Fraction) : Type 0 where
   pub halves : List Interval
@@ -68,7 +41,7 @@ pub record Steps (c : Conditions) (recorded : List Fraction) : Type 0 where
 
 pub steps_exist : (c : Conditions) (recorded : List Fraction) → 0 < c.nominal → Steps c recorded
 steps_exist c recorded some =
-    let voltages = AllZip-exists (IsVoltageInterval c.nominal c.uncertainty) (λ r. voltage_exists c.nominal c.uncertainty r some) recorded in
+    let voltages = AllZip-exists (IsVoltageInterval c.nominal c.uncertainty) (voltage_exists c.nominal c.uncertainty some) recorded in
     let cuts = cuts_exist (half_in c) (map is_below_zero recorded) in
     let halves = intervals_exist (half_in c) cuts.0 voltages.0 (half_some c.lamp c.rate) in
     let flags = flags_exist (window_in c) halves.0 (window_some c.lamp) in
@@ -105,9 +78,6 @@ steps_length c recorded halves flags levels steps =
     omega (arith, voltages, points, answers, turned, length-reverse levels, length-reverse steps.voltages)
 
 -- ---- severities
-
-ends_ordered : (vs : List Interval) → AllZip ◌≤ℤ◌ (lows vs) (highs vs)
-ends_ordered vs = held_below vs (lows vs) (lows_are_held vs)
 
 severity_interval_exists : (levels : List Interval) → 0 < length levels → (v : Interval) × IsSeverityInterval levels v
 severity_interval_exists levels some =

@@ -1,14 +1,13 @@
 -- A result holds the quantities of every exact run.
 use Rattle.std.proofs.Common.{◌≡◌, ℕ, ◌+◌, ◌*◌, ◌<◌, ◌≤◌, List, length, map, get_or, ℤ, pos, Option, Some, None, sym, subst, arith, ⊎_elim}
 use Rattle.std.specs.Prelude.{reverse}
-use Rattle.std.specs.List.{AllZip}
 use Rattle.std.proofs.lemmas.Bool.{cases_lt}
 use Rattle.std.proofs.lemmas.List.{reverse-reverse, get_or_default}
 use Rattle.flk_exact.specs.Fraction.{Fraction}
 use Rattle.flk_exact.specs.Rounding.{IsBetween}
 use Rattle.flk_exact.specs.HalfPeriod.{AreHalfPeriodValues}
-use Rattle.flk_exact.specs.Run.{IsAdmitted, IsAdmittedRun}
-use Rattle.flk_exact.proofs.ListLemmas.{AllZip-joined, AllZip-reverse, AllZip-slice_range, AllZip-from_get_or}
+use Rattle.flk_exact.specs.Run.{IsAdmittedRun}
+use Rattle.flk_exact.proofs.ListLemmas.{AllZip-reverse, AllZip-slice_range, AllZip-from_get_or}
 use Rattle.flk_exact.proofs.CutLemmas.{cuts_unique}
 use Rattle.flk_num.specs.declared.interval.Interval.{Interval}
 use Rattle.flk_num.specs.declared.lamp.Lamp.{Lamp}
@@ -19,8 +18,8 @@ use Rattle.flk_num.specs.Interval.{Holds, HoldEach, lows, highs}
 use Rattle.flk_num.specs.Values.{HoldValues}
 use Rattle.flk_num.specs.Lamp.{window_of}
 use Rattle.flk_num.specs.Rate.{sampling_interval, adaptor_exponent, smoothing_number}
-use Rattle.flk_scale.specs.Voltage.{IsVoltageInterval, is_below_zero}
-use Rattle.flk_scale.proofs.VoltageLemmas.{voltage_holds}
+use Rattle.flk_scale.specs.Voltage.{is_below_zero}
+use Rattle.flk_scale.proofs.VoltageLemmas.{voltages_hold}
 use Rattle.flk_half.proofs.IntervalsLemmas.{intervals_hold}
 use Rattle.flk_change.specs.declared.flag.Flag.{Flag}
 use Rattle.flk_change.specs.declared.summary.ChangeSummary.{ChangeSummary}
@@ -60,12 +59,6 @@ exponent_high R2400 = omega arith
 exponent_high R4800 = omega arith
 
 -- ---- voltages, half-periods and changes
-
-pub voltages_hold : (nominal uncertainty : ℕ) (recorded : List Fraction) (voltages : List Interval) (run : List Fraction) → 0 < nominal → AllZip (IsVoltageInterval nominal uncertainty) recorded voltages
-    → IsAdmittedRun (1000 * nominal) uncertainty recorded run → HoldEach voltages run
-voltages_hold nominal uncertainty recorded voltages run some are admitted =
-    AllZip-joined (IsVoltageInterval nominal uncertainty) (IsAdmitted (1000 * nominal) uncertainty) Holds
-    (λ r v u is near. voltage_holds nominal uncertainty r v u some is near) recorded voltages run are admitted
 
 wide_holds : (window : ℕ) (halves : List Interval) (flags : List Flag) (s : ChangeSummary) → 0 < window → IsSummary window halves flags s → 6 < s.doubtful
     → (quantity : Quantity) → HoldsEachList quantity window halves (interval_of quantity s)

@@ -11,6 +11,7 @@ use Rattle.flk_exact.proofs.ListLemmas.{All-beside}
 use Rattle.flk_num.specs.declared.interval.Interval.{Interval}
 use Rattle.flk_num.specs.Interval.{lows, highs}
 use Rattle.flk_num.specs.Values.{IsHalfPeriodRange}
+use Rattle.flk_num.proofs.RateLemmas.{half_some}
 use Rattle.flk_scale.specs.Voltage.{is_below_zero, IsOverRange, IsVoltageInterval}
 use Rattle.flk_scale.specs.Range.{IsWithinRange}
 use Rattle.flk_scale.proofs.VoltageLemmas.{voltage_ends}
@@ -26,6 +27,7 @@ use Rattle.flk_change.proofs.LevelLemmas.{level-above, level-below}
 use Rattle.flk_change.proofs.QuantityLemmas.{stop_within}
 use Rattle.flk_change.proofs.SwingLemmas.{excesses_few}
 use Rattle.flk_change.proofs.WidthLemmas.{taken_window}
+use Rattle.flk_change.proofs.SumLemmas.{lows-natural}
 use Rattle.flk_stat.specs.Severity.{cap}
 use Rattle.flk_stat.specs.LongTerm.{sum_of_cubes}
 use Rattle.flk_stat.proofs.LongTermLemmas.{powers, long_term_high}
@@ -34,7 +36,6 @@ use Rattle.flk_result.specs.Conditions.{Conditions, half_in, window_in, of_inter
 use Rattle.flk_result.specs.PhaseResult.{zero_interval, pst_at, IsJudgeable, IsProper}
 use Rattle.flk_result.specs.Digits.{AreSteps, IsSeverityInterval, IsLongTermInterval, IsLongTermEnds, IsPhaseResult}
 use Rattle.flk_result.proofs.HoldLemmas.{window_some}
-use Rattle.flk_result.proofs.ExistLemmas.{half_some}
 
 -- ---- half-periods
 
@@ -61,14 +62,11 @@ halves_in_range c recorded halves flags levels some few within steps =
 abbrev ten : ℤ
 ten = pos 10000000000
 
-lows_in : (halves : List Interval) → All IsHalfPeriodRange halves → All (λ z. pos 0 ≤ℤ z) (lows halves)
-lows_in halves h = All-map (λ z. pos 0 ≤ℤ z) (λ v. v.lo) halves (λ k d low. (h k d low).low)
-
 highs_in : (halves : List Interval) → All IsHalfPeriodRange halves → All (λ z. z ≤ℤ ten) (highs halves)
 highs_in halves h = All-map (λ z. z ≤ℤ ten) (λ v. v.hi) halves (λ k d low. (h k d low).high)
 
 level_low : (window : ℕ) (halves : List Interval) (j : ℕ) → 0 < window → All IsHalfPeriodRange halves → (window ≤ j) × (j ≤ length halves) → pos 0 ≤ℤ level window (lows halves) j
-level_low window halves j some h fits = level-above (pos 0) window (lows halves) j some fits.0 (omega (arith, fits.1, length-map halves (λ (v : Interval). v.lo))) (lows_in halves h)
+level_low window halves j some h fits = level-above (pos 0) window (lows halves) j some fits.0 (omega (arith, fits.1, length-map halves (λ (v : Interval). v.lo))) (lows-natural halves h)
 
 level_high : (window : ℕ) (halves : List Interval) (j : ℕ) → 0 < window → All IsHalfPeriodRange halves → (window ≤ j) × (j ≤ length halves) → level window (highs halves) j ≤ℤ ten
 level_high window halves j some h fits = level-below ten window (highs halves) j some fits.0 (omega (arith, fits.1, length-map halves (λ (v : Interval). v.hi))) (highs_in halves h)
@@ -106,7 +104,7 @@ module _ (window : ℕ) (halves : List Interval) (steady : ℕ → Type 0) (some
   swing_small c i is low =
       let b = before_small c is in
       apart _ _ _ _
-      (lows_in halves h i (pos 0) (omega (arith, low, length-map halves (λ (v : Interval). v.lo)))) (highs_in halves h i (pos 0) (omega (arith, low, length-map halves (λ (v : Interval). v.hi)))) b.0 b.1
+      (lows-natural halves h i (pos 0) (omega (arith, low, length-map halves (λ (v : Interval). v.lo)))) (highs_in halves h i (pos 0) (omega (arith, low, length-map halves (λ (v : Interval). v.hi)))) b.0 b.1
 
   gives_small : (q : Quantity) (c : Change) (x : ℤ) → IsChange steady (length halves) c → Gives q window (length halves) (greatest_readings window halves) c x → x ≤ℤ greatest_in (length halves) q
   gives_small Dc c x is e = step_small c x is e
@@ -141,13 +139,13 @@ hull_in q window halves flags v some h are hull =
 
 wide_in : (halves : List Interval) (s : ChangeSummary) (q : Quantity) → All IsHalfPeriodRange halves → AreWide halves s.dc s.dmax s.t → IsUpTo (greatest_in (length halves) q) (interval_of q s)
 wide_in halves s Dc h wide =
-    let least = All-contains (λ z. pos 0 ≤ℤ z) (lows halves) wide.least (lows_in halves h) wide.is_least.among in
+    let least = All-contains (λ z. pos 0 ≤ℤ z) (lows halves) wide.least (lows-natural halves h) wide.is_least.among in
     let greatest = All-contains (λ z. z ≤ℤ ten) (highs halves) wide.greatest (highs_in halves h) wide.is_greatest.among in
     record { low = omega (arith, ints, wide.dc_low); high = omega (arith, ints, wide.dc_high, least, greatest) }
 wide_in halves s Dmax h wide =
     let Below : ℤ → Type 0 = λ z. z ≤ℤ ten in
     let away : ℤ → ℤ = λ z. distance z (pos 1000000000) in
-    let least = All-contains (λ z. pos 0 ≤ℤ z) (lows halves) wide.least (lows_in halves h) wide.is_least.among in
+    let least = All-contains (λ z. pos 0 ≤ℤ z) (lows halves) wide.least (lows-natural halves h) wide.is_least.among in
     let greatest = All-contains Below (highs halves) wide.greatest (highs_in halves h) wide.is_greatest.among in
     let Inside : ℤ → Type 0 = λ z. (pos 0 ≤ℤ z) × (z ≤ℤ ten) in
     let low_inside : All Inside (lows halves) =

@@ -19,7 +19,7 @@ use Rattle.flk_num.specs.Values.{IsNoWider}
 use Rattle.flk_num.specs.declared.rate.Rate.{Rate}
 use Rattle.flk_num.specs.declared.rate.Rate.TheVariants.{R2400, R4800}
 use Rattle.flk_scale.specs.Voltage.{is_below_zero, IsVoltageInterval, IsRelative}
-use Rattle.flk_scale.proofs.VoltageLemmas.{voltage_narrow, voltage_near, doubt_least}
+use Rattle.flk_scale.proofs.VoltageLemmas.{voltage_narrow, voltage_near, doubt_least, voltages_hold}
 use Rattle.flk_half.specs.Intervals.{IsNarrowHalfPeriod}
 use Rattle.flk_half.proofs.IntervalsLemmas.{intervals_hold, intervals_narrow}
 use Rattle.flk_change.specs.declared.flag.Flag.{Flag}
@@ -52,7 +52,7 @@ use Rattle.flk_result.specs.Digits.{AreSteps, IsLongTermEnds, IsPhaseResult}
 use Rattle.flk_result.specs.Promise.{IsFilterOf}
 use Rattle.flk_result.specs.Widths.{IsOwnRun, CoversSignal, KeepsSeverityWidths, KeepsLongTermWidth, CoversHalfPeriods, KeepsChangeWidths, KeepsSettledWidths, KeepsWidths}
 use Rattle.flk_result.proofs.LengthLemmas.{intervals_length}
-use Rattle.flk_result.proofs.HoldLemmas.{window_some, exponent_high, voltages_hold}
+use Rattle.flk_result.proofs.HoldLemmas.{window_some, exponent_high}
 use Rattle.flk_result.proofs.ExistLemmas.{half_some}
 use Rattle.flk_result.proofs.SettledLemmas.{settled_hull}
 

@@ -7,8 +7,9 @@ use Rattle.flk_num.specs.Rate.{half_at}
 use Rattle.flk_section.specs.Filter.{FilterNumbers}
 use Rattle.flk_result.specs.declared.result.Setup.{Setup}
 
--- The lamp and the rate; the numbers of the lamp's weighting filter at that rate; the nominal voltage in millivolts and the
--- declared uncertainty in microvolts; the samples of the run-in and of an interval; and how many intervals are judged.
+-- The lamp and the rate; the numbers of the lamp's weighting filter at that rate; the nominal voltage in millivolts and
+-- the declared uncertainty in microvolts; the samples of the run-in and of an interval; and how many intervals are
+-- judged.
 pub record Conditions : Type 0 where
   pub lamp : Lamp
   pub rate : Rate
@@ -21,8 +22,8 @@ pub record Conditions : Type 0 where
 
 -- those of a phase that is made for this, with the numbers of a filter, the nominal voltage in millivolts and the
 -- uncertainty in microvolts
-abbrev pub conditions_of : Setup → FilterNumbers → (nominal uncertainty : ℕ) → Conditions
-conditions_of s filter nominal uncertainty = record {
+abbrev pub conditions_for : Setup → FilterNumbers → (nominal uncertainty : ℕ) → Conditions
+conditions_for s filter nominal uncertainty = record {
   lamp = s.lamp;
   rate = s.rate;
   filter = filter;
@@ -41,9 +42,14 @@ half_in c = half_at c.lamp c.rate
 abbrev pub window_in : Conditions → ℕ
 window_in c = window_of c.lamp
 
--- the items of interval i, from 0, of a list with one item for each sample, in the order of time
+-- The items of interval i, from 0, of a list with one item for each sample, in the order of time: so many samples are
+-- before the first interval, and so many make an interval.
+abbrev pub interval_items : {A : Type 0} → (run_in interval i : ℕ) → List A → List A
+interval_items run_in interval i xs = slice_range xs (run_in + i * interval) (run_in + (i + 1) * interval)
+
+-- those under these conditions
 abbrev pub of_interval : {A : Type 0} → Conditions → ℕ → List A → List A
-of_interval c i xs = slice_range xs (c.run_in + i * c.interval) (c.run_in + (i + 1) * c.interval)
+of_interval c i xs = interval_items c.run_in c.interval i xs
 
 -- so many samples are enough for the intervals that are judged
 abbrev pub AreEnough : Conditions → ℕ → Type 0

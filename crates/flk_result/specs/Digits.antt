@@ -1,5 +1,5 @@
--- The digits of a result: the one family of whole numbers that the recorded voltages of a channel have by docs/PROFILE.md.
--- Lists are in the order of time; the filters' relations have the newest value first.
+-- The digits of a result: the one family of whole numbers that the recorded voltages of a channel have by
+-- docs/PROFILE.md. Lists are in the order of time; the filters' relations have the newest value first.
 use Rattle.std.specs.Prelude.{◌≡◌, ℕ, ◌<◌, ◌≤◌, List, length, map, reverse, Option, Some, None}
 use Rattle.std.specs.List.{AllZip}
 use Rattle.flk_exact.specs.Fraction.{Fraction}
@@ -52,7 +52,8 @@ abbrev pub IsLongTermEnds : (count : ℕ) → List Interval → Option Interval 
 IsLongTermEnds count severities None = count < 12
 IsLongTermEnds count severities (Some v) = (count ≡ 12) × IsLongTermInterval severities v
 
--- The result of these recorded voltages: the summary of the half-periods with their flags, and each Pst and Plt end by end.
+-- The result of these recorded voltages: the summary of the half-periods with their flags, and each Pst and Plt end
+-- by end.
 pub record IsPhaseResult (c : Conditions) (recorded : List Fraction) (r : PhaseResult) : Type 0 where
   pub halves : List Interval
   pub flags : List Flag

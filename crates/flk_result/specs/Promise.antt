@@ -19,7 +19,8 @@ pub record IsFilterOf (c : Conditions) (w : Whole) : Type 0 where
   pub numbers : numbers_of w ≡ c.filter
   pub design : IsDesign (sampling_interval c.rate) (constants_of c.lamp) c.filter.coefs
 
--- Its bound is that of the certificates that are made for the design's sections. So the lamp and the rate alone decide it.
+-- Its bound is that of the certificates that are made for the design's sections. So the lamp and the rate alone
+-- decide it.
 pub record IsCertifiedFilterOf (c : Conditions) (w : Whole) : Type 0 where
   pub filter : IsFilterOf c w
   pub gains : List Gain

@@ -17,8 +17,8 @@ use Rattle.flk_stat.specs.Severity.{IsSeverity}
 use Rattle.flk_stat.specs.LongTerm.{IsLongTerm}
 use Rattle.flk_result.specs.Conditions.{Conditions, half_in, window_in, of_interval}
 
--- dc and dmax in billionths of nominal; Tmax in half-periods; and in billionths one Pst for each interval that is judged, and
--- Plt where twelve are
+-- dc and dmax in billionths of nominal; Tmax in half-periods; and in billionths one Pst for each interval that is
+-- judged, and Plt where twelve are
 pub record RunQuantities : Type 0 where
   pub dc : ℤ
   pub dmax : ℤ

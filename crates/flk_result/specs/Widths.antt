@@ -1,5 +1,6 @@
--- How wide the intervals of a result are. The bounds are the project's own. Those of severities are stated of the run of the
--- recorded voltages themselves, relative to nominal. Lists are in the order of time, and the adaptor's means have the newest first.
+-- How wide the intervals of a result are. The bounds are the project's own. Those of severities are stated of the run
+-- of the recorded voltages themselves, relative to nominal. Lists are in the order of time, and the adaptor's means
+-- have the newest first.
 use Rattle.std.specs.Prelude.{◌≡◌, ℕ, ◌+◌, ◌*◌, ◌^◌, ◌<◌, List, map, drop, reverse, Some, ℤ, pos, ◌-ℤ◌, ◌<ℤ◌}
 use Rattle.std.specs.List.{All, AllZip}
 use Rattle.flk_exact.specs.Fraction.{Fraction, ◌≤ℚ◌, ◌+ℚ◌, size, whole, units}
@@ -31,10 +32,11 @@ IsOwnRun c recorded own = AllZip (IsRelative c.nominal) recorded own
 
 -- ---- severities
 
--- What covers the width of the weighted signal. delta is at least the uncertainty relative to nominal and 2^-47; no voltage is above
--- `greatest` in size; no number by which the adaptor divides a square is below `least`; `output` is at least the radius of the adaptor's
--- outputs that follows from these; and `signal` is at least the radius behind the filter that follows from it, and 2^-24 for the rounding of
--- the smoothing. (The equations' own numbers cover it, and so do any that are safer.)
+-- What covers the width of the weighted signal. delta is at least the uncertainty relative to nominal and 2^-47; no
+-- voltage is above `greatest` in size; no number by which the adaptor divides a square is below `least`; `output` is at
+-- least the radius of the adaptor's outputs that follows from these; and `signal` is at least the radius behind the
+-- filter that follows from it, and 2^-24 for the rounding of the smoothing. (The equations' own numbers cover it, and
+-- so do any that are safer.)
 pub record CoversSignal (c : Conditions) (own means : List Fraction) (delta greatest least output signal : Fraction)
     : Type 0 where
   pub doubt : CoversDoubt (1000 * c.nominal) c.uncertainty delta
@@ -62,16 +64,17 @@ KeepsLongTermWidth r =
 
 -- ---- changes
 
--- `3 * 10^9 * delta + 3` billionths are below width + 1, where delta is at least the uncertainty relative to nominal and 2^-47
+-- `3 * 10^9 * delta + 3` billionths are below width + 1, where delta is at least the uncertainty relative to nominal
+-- and 2^-47
 pub record CoversHalfPeriods (c : Conditions) (width : ℕ) : Type 0 where
   pub delta : Fraction
   pub doubt : CoversDoubt (1000 * c.nominal) c.uncertainty delta
   pub covers : half_period_width delta <ℚ whole (pos (width + 1))
 
--- Half-periods are at most so wide. In each resolution of the doubt dc and dmax are at most twice as wide, and Tmax is at most as wide as
--- the count of half-periods in doubt in the change that has most of them; how far one is from the level before a change is known to twice
--- the width. Every exact run has its values within the half-periods, and there the spread of a Doubtful window differs from the limit by at
--- most twice the width.
+-- Half-periods are at most so wide. In each resolution of the doubt dc and dmax are at most twice as wide, and Tmax is
+-- at most as wide as the count of half-periods in doubt in the change that has most of them; how far one is from the
+-- level before a change is known to twice the width. Every exact run has its values within the half-periods, and there
+-- the spread of a Doubtful window differs from the limit by at most twice the width.
 pub record KeepsChangeWidths (c : Conditions) (recorded : List Fraction) (halves : List Interval) (flags : List Flag)
     : Type 0 where
   pub half_periods : (width : ℕ) → CoversHalfPeriods c width → All (IsNoWider width) halves

@@ -35,8 +35,8 @@ pub fn own_run_is_admitted()
         → IsAdmittedRun (1000 * c.nominal) c.uncertainty recorded own }
 {}
 
-/// There are numbers that cover the widths: where the uncertainty is at most a hundredth of nominal, and for the weighted signal
-/// where no recorded voltage is over range.
+/// There are numbers that cover the widths: where the uncertainty is at most a hundredth of nominal, and for the
+/// weighted signal where no recorded voltage is over range.
 pub fn some_numbers_cover()
     ensures signal { (c : Conditions) (recorded own means outputs : List Fraction)
         → 0 < c.nominal → c.uncertainty ≤ 10 * c.nominal → IsWithinRange c.nominal recorded
@@ -55,8 +55,8 @@ pub fn result_is_one()
         → IsPhaseResult c recorded r → IsPhaseResult c recorded s → r ≡ s }
 {}
 
-/// Its values are from 0 to 10^12, where no recorded voltage is over range, the uncertainty is at most a hundredth of nominal, and
-/// there are fewer than 2^32 half-periods.
+/// Its values are from 0 to 10^12, where no recorded voltage is over range, the uncertainty is at most a hundredth of
+/// nominal, and there are fewer than 2^32 half-periods.
 pub fn result_is_proper()
     ensures { (c : Conditions) (recorded : List Fraction) (r : PhaseResult) → AreSensible c
         → c.uncertainty ≤ 10 * c.nominal → IsWithinRange c.nominal recorded → r.halves < 2 ^ 32

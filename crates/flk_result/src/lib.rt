@@ -1,11 +1,11 @@
-//! The quantities of one channel of a recording: those of an exact run, the one result of the recording in digits, and what the
-//! result promises.
+//! The quantities of one channel of a recording: those of an exact run, the one result of the recording in digits, and
+//! what the result promises.
 //!
-//! `Conditions` in `specs/` names what they depend on beside the samples. `RunQuantities` states the quantities of an exact run in
-//! fractions, `Digits` the result in whole numbers, and `Promise` joins the two: the result's intervals hold the quantities of
-//! every exact run that the recorded voltages admit. `Widths` says how wide they may be. The functions are laws: they have empty
-//! bodies, and their contracts say that the result keeps its promise and its widths, that it and a run's quantities are there and
-//! are one, and that the recorded voltages admit a run.
+//! `Conditions` in `specs/` names what they depend on beside the samples. `RunQuantities` states the quantities of an
+//! exact run in fractions, `Digits` the result in whole numbers, and `Promise` joins the two: the result's intervals
+//! hold the quantities of every exact run that the recorded voltages admit. `Widths` says how wide they may be. The
+//! functions are laws: they have empty bodies, and their contracts say that the result keeps its promise and its
+//! widths, that it and a run's quantities are there and are one, and that the recorded voltages admit a run.
 #![tactic(auto)]
 
 mod laws;

@@ -1,8 +1,10 @@
--- Recorded voltages are all within range, or have one first that isn't.
-use Rattle.std.proofs.Common.{◌≡◌, ◌⊎◌, ℕ, zero, suc, ◌*◌, ◌<◌, ◌≤◌, List, length, ⊎_elim, subst, arith, inl, inr}
+-- Recorded voltages are all within range, or have one first that isn't; and what one voltage more does.
+use Rattle.std.proofs.Common.{◌≡◌, ◌⊎◌, ℕ, zero, suc, ◌*◌, ◌<◌, ◌≤◌, List, [], ◌∷◌, ◌++◌, length, pos, ⊎_elim, subst, ap, ◌∙◌, length-append, arith, inl, inr}
 use Rattle.std.specs.Int.RustNames.{unsigned_abs}
 use Rattle.std.proofs.lemmas.Bool.{cases_lt}
-use Rattle.flk_exact.specs.Fraction.{Fraction}
+use Rattle.std.proofs.lemmas.List.{get_or_append_left}
+use Rattle.std.proofs.Math.Seq.{get_or-append_seam}
+use Rattle.flk_exact.specs.Fraction.{Fraction, whole}
 use Rattle.flk_scale.specs.Voltage.{IsOverRange}
 use Rattle.flk_scale.specs.Range.{voltage_at, IsFirstOver, IsWithinRange}
 
@@ -40,3 +42,21 @@ one_over nominal recorded i j h k =
     (λ less. absurd (k.first i less h.over))
     (λ most. ⊎_elim (λ less. absurd (h.first j less k.over)) (λ least. omega (arith, most, least)) (cases_lt j i))
     (cases_lt i j)
+
+-- ---- one voltage more
+
+-- a voltage before the last one is that of the list before it
+pub voltage_before : (recorded : List Fraction) (v : Fraction) (k : ℕ) → k < length recorded → voltage_at (recorded ++ v ∷ []) k ≡ voltage_at recorded k
+voltage_before recorded v k less = get_or_append_left recorded (v ∷ []) (whole (pos 0)) k less
+
+pub voltage_last : (recorded : List Fraction) (v : Fraction) → voltage_at (recorded ++ v ∷ []) (length recorded) ≡ v
+voltage_last recorded v = get_or-append_seam recorded v [] (whole (pos 0))
+
+pub within_more : (nominal : ℕ) (recorded : List Fraction) (v : Fraction) → IsWithinRange nominal recorded → ¬ IsOverRange nominal v → IsWithinRange nominal (recorded ++ v ∷ [])
+within_more nominal recorded v within fine = λ k less over.
+    ⊎_elim
+    (λ before. within k before (subst (IsOverRange nominal) (voltage_before recorded v k before) over))
+    (λ last.
+    let here : k ≡ length recorded = omega (arith, less, last, length-append recorded (v ∷ [])) in
+    fine (subst (IsOverRange nominal) (ap (voltage_at (recorded ++ v ∷ [])) here ∙ voltage_last recorded v) over))
+    (cases_lt k (length recorded))

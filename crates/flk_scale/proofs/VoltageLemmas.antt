@@ -1,15 +1,18 @@
 -- What the interval of a recorded voltage holds, how wide it is, how great and how near the voltage its ends are, and that there is one.
-use Rattle.std.proofs.Common.{◌≡◌, ℕ, ◌+◌, ◌*◌, ◌^◌, ◌<◌, ◌≤◌, ℤ, pos, neg_ℤ, ◌+ℤ◌, ◌-ℤ◌, ◌*ℤ◌, ◌≤ℤ◌, ◌<ℤ◌, ap, arith}
+use Rattle.std.proofs.Common.{◌≡◌, List, ℕ, ◌+◌, ◌*◌, ◌^◌, ◌<◌, ◌≤◌, ℤ, pos, neg_ℤ, ◌+ℤ◌, ◌-ℤ◌, ◌*ℤ◌, ◌≤ℤ◌, ◌<ℤ◌, ap, arith}
 use Rattle.std.specs.Prelude.{negsuc}
 use Rattle.std.specs.Int.RustNames.{unsigned_abs}
+use Rattle.std.specs.List.{AllZip}
 use Rattle.std.proofs.Math.Nat.{mul-pos, mul-le-mul_right}
 use Rattle.std.proofs.lemmas.Int.{ints, by_lt_z}
 use Rattle.flk_exact.specs.Fraction.{Fraction, ◌≤ℚ◌, ◌+ℚ◌, ◌-ℚ◌, units}
-use Rattle.flk_exact.specs.Run.{IsAdmitted, CoversDoubt}
-use Rattle.flk_exact.proofs.RoundingLemmas.{floor_unique, IsFloor-neg}
-use Rattle.flk_exact.proofs.WholeLemmas.{scale_≤, cancel_≤, Is, atom, nat, plus_is, minus_is, times_is, at_most, from_at_most, from_below}
+use Rattle.flk_exact.specs.Run.{IsAdmitted, CoversDoubt, IsAdmittedRun}
+use Rattle.flk_exact.proofs.RoundingLemmas.{floor_unique, IsFloor-neg, IsFloor-floor_of, IsCeil-ceil_of}
+use Rattle.flk_exact.proofs.WholeLemmas.{scale_≤, cancel_≤, Is, atom, nat, plus_is, minus_is, times_is, at_most, from_at_most, from_below, ≤ℤ_trans}
+use Rattle.flk_exact.specs.Rounding.{floor_of, ceil_of}
+use Rattle.flk_exact.proofs.ListLemmas.{AllZip-joined}
 use Rattle.flk_num.specs.declared.interval.Interval.{Interval}
-use Rattle.flk_num.specs.Interval.{Holds, IsNarrow, IsNear, IsSmall, hundredth}
+use Rattle.flk_num.specs.Interval.{Holds, IsNarrow, IsNear, IsSmall, hundredth, HoldEach}
 use Rattle.flk_scale.specs.Voltage.{IsOverRange, IsVoltageInterval, IsRelative, greatest_voltage}
 use borrow.Author.Differences.{up, down}
 
@@ -232,3 +235,26 @@ voltage_same nominal e r v w h k =
     let m = 1000 * nominal * r.den in
     let up : neg_ℤ v.hi ≡ neg_ℤ w.hi = floor_unique _ m (neg_ℤ v.hi) (neg_ℤ w.hi) (IsFloor-neg _ m v.hi h.up) (IsFloor-neg _ m w.hi k.up) in
     (floor_unique _ m v.lo w.lo h.down k.down, omega (arith, ints, up))
+
+-- ---- there is one
+
+pub voltage_exists : (nominal uncertainty : ℕ) → 0 < nominal → (r : Fraction) → (v : Interval) × IsVoltageInterval nominal uncertainty r v
+voltage_exists nominal uncertainty some r =
+    let base = 1000 * nominal * r.den in
+    let positive : 0 < base = mul-pos (omega (arith, some)) r.positive in
+    let below = (r.num -ℤ pos (uncertainty * r.den)) *ℤ pos (2 ^ 48) in
+    let above = (r.num +ℤ pos (uncertainty * r.den)) *ℤ pos (2 ^ 48) in
+    let floor = IsFloor-floor_of below base positive in
+    let ceil = IsCeil-ceil_of above base positive in
+    let between : below ≤ℤ above = scale_≤ (r.num -ℤ pos (uncertainty * r.den)) (r.num +ℤ pos (uncertainty * r.den)) (2 ^ 48) (omega (arith, ints)) in
+    let ordered = cancel_≤ (floor_of below (pos base)) (ceil_of above (pos base)) base positive (≤ℤ_trans floor.within (≤ℤ_trans between ceil.within)) in
+    let v : Interval = record { lo = floor_of below (pos base); hi = ceil_of above (pos base); ordered = ordered } in
+    (v, record { down = floor; up = ceil })
+
+-- ---- voltages in a list
+
+pub voltages_hold : (nominal uncertainty : ℕ) (recorded : List Fraction) (voltages : List Interval) (run : List Fraction) → 0 < nominal → AllZip (IsVoltageInterval nominal uncertainty) recorded voltages
+    → IsAdmittedRun (1000 * nominal) uncertainty recorded run → HoldEach voltages run
+voltages_hold nominal uncertainty recorded voltages run some are admitted =
+    AllZip-joined (IsVoltageInterval nominal uncertainty) (IsAdmitted (1000 * nominal) uncertainty) Holds
+    (λ r v u is near. voltage_holds nominal uncertainty r v u some is near) recorded voltages run are admitted

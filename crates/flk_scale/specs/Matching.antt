@@ -1,4 +1,5 @@
--- Whether a channel of a configuration can be measured, and the first test that fails. A channel's number counts from 1.
+-- Whether a channel of a configuration can be measured, and the first test that fails. A channel's number counts
+-- from 1.
 use Rattle.std.specs.Prelude.{◌≡◌, ℕ, ◌<◌, length, ℤ}
 use Rattle.flk_num.specs.declared.lamp.Lamp.{Lamp}
 use Rattle.flk_text.specs.declared.decimals.DecimalValue.{DecimalValue}
@@ -16,8 +17,10 @@ CanBeMeasured c channel = (a : Analog) × IsChannel c channel a × HasScale a
 
 -- the first of these tests that fails, in this order
 abbrev pub IsChannelFault : Config → ℕ → MatchFault → Type 0
-IsChannelFault c channel (faults.Channel asked there) = (length c.analog < channel) × (asked ≡ channel) × (there ≡ length c.analog)
-IsChannelFault c channel (faults.Unit number) = (number ≡ channel) × (a : Analog) × IsChannel c channel a × (¬ IsVoltageUnit a.uu)
+IsChannelFault c channel (faults.Channel asked there) =
+    (length c.analog < channel) × (asked ≡ channel) × (there ≡ length c.analog)
+IsChannelFault c channel (faults.Unit number) =
+    (number ≡ channel) × (a : Analog) × IsChannel c channel a × (¬ IsVoltageUnit a.uu)
 IsChannelFault c channel (faults.Scale number) =
     (number ≡ channel) × (a : Analog) × IsChannel c channel a × IsVoltageUnit a.uu × (¬ HasSmallScale a)
 IsChannelFault c channel _ = ⊥

@@ -1,4 +1,5 @@
--- Which of a recording's voltages are over range. The voltages are in microvolts, in the order of time, and nominal is in millivolts.
+-- Which of a recording's voltages are over range. The voltages are in microvolts, in the order of time, and nominal is
+-- in millivolts.
 use Rattle.std.specs.Prelude.{ℕ, ◌<◌, List, length, slice_index_or, pos}
 use Rattle.flk_exact.specs.Fraction.{Fraction, whole}
 use Rattle.flk_scale.specs.Voltage.{IsOverRange}

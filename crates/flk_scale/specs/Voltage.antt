@@ -1,5 +1,6 @@
--- The voltage that a sample records, and the interval of the exact voltages that it admits, in units of 2^-48 of nominal. A sample x
--- of an analog channel stands for `a * x + b` of the channel's units (IEEE C37.111-1999, clause 5.3); a, b are kept in units of 10^-24.
+-- The voltage that a sample records, and the interval of the exact voltages that it admits, in units of 2^-48 of
+-- nominal. A sample x of an analog channel stands for `a * x + b` of the channel's units (IEEE C37.111-1999, clause
+-- 5.3); a, b are kept in units of 10^-24.
 use Rattle.std.specs.Prelude.{◌≡◌, ◌⊎◌, ℕ, ◌*◌, ◌^◌, ◌<◌, Bool, true, cond, List, codes, ℤ, pos, ◌+ℤ◌, ◌-ℤ◌, ◌*ℤ◌}
 use Rattle.std.specs.Int.{is_negative}
 use Rattle.std.specs.Int.RustNames.{unsigned_abs}
@@ -12,7 +13,8 @@ use Rattle.flk_cfg.specs.declared.config.Analog.{Analog}
 
 -- the unit's text is `V` or `kV`, in letters of any case
 abbrev pub IsVoltageUnit : List ℕ → Type 0
-IsVoltageUnit text = (str_eq_ignore_ascii_case text (codes "V") ≡ true) ⊎ (str_eq_ignore_ascii_case text (codes "kV") ≡ true)
+IsVoltageUnit text =
+    (str_eq_ignore_ascii_case text (codes "V") ≡ true) ⊎ (str_eq_ignore_ascii_case text (codes "kV") ≡ true)
 
 -- the microvolts of one unit of voltage: of a kilovolt, or of a volt
 abbrev pub microvolts_in : List ℕ → ℕ
@@ -34,11 +36,13 @@ is_below_zero v = is_negative v.num
 abbrev pub IsOverRange : ℕ → Fraction → Type 0
 IsOverRange nominal v = 4 * (1000 * nominal) * v.den < unsigned_abs v.num
 
--- v runs from the recorded voltage less the uncertainty, rounded down, to the recorded voltage and the uncertainty, rounded up, both
--- over nominal (nominal in millivolts, uncertainty and voltage in microvolts)
+-- v runs from the recorded voltage less the uncertainty, rounded down, to the recorded voltage and the uncertainty,
+-- rounded up, both over nominal (nominal in millivolts, uncertainty and voltage in microvolts)
 pub record IsVoltageInterval (nominal uncertainty : ℕ) (recorded : Fraction) (v : Interval) : Type 0 where
-  pub down : IsFloor ((recorded.num -ℤ pos (uncertainty * recorded.den)) *ℤ pos (2 ^ 48)) (pos (1000 * nominal * recorded.den)) v.lo
-  pub up : IsCeil ((recorded.num +ℤ pos (uncertainty * recorded.den)) *ℤ pos (2 ^ 48)) (pos (1000 * nominal * recorded.den)) v.hi
+  pub down : IsFloor ((recorded.num -ℤ pos (uncertainty * recorded.den)) *ℤ pos (2 ^ 48))
+      (pos (1000 * nominal * recorded.den)) v.lo
+  pub up : IsCeil ((recorded.num +ℤ pos (uncertainty * recorded.den)) *ℤ pos (2 ^ 48))
+      (pos (1000 * nominal * recorded.den)) v.hi
 
 -- u is the recorded voltage itself, relative to nominal
 abbrev pub IsRelative : (nominal : ℕ) → (recorded u : Fraction) → Type 0

@@ -14,8 +14,8 @@ pub enum MatchFault {
     Unit { channel: u16 },
     /// A channel's multiplier or offset is above 10000 in size.
     Scale { channel: u16 },
-    /// The line frequency, in units of 10^-24 of a hertz, isn't that of the lamp's supply, 50 or 60 Hz. Where no lamp is asked for,
-    /// it is neither of the two, and `hertz` is 0.
+    /// The line frequency, in units of 10^-24 of a hertz, isn't that of the lamp's supply, 50 or 60 Hz. Where no lamp
+    /// is asked for, it is neither of the two, and `hertz` is 0.
     Lamp { hertz: u8, lf: DecimalValue },
     /// The recording has fewer records than the run-in and one interval need.
     TooShort { needed: u32, there: u32 },

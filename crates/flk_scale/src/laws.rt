@@ -16,8 +16,8 @@ ghost use Rattle.flk_scale.specs.Matching.{CanBeMeasured, IsChannelFault, IsOthe
 ghost use Rattle.flk_scale.specs.Range.{IsWithinRange, IsFirstOver};
 ghost use Rattle.flk_scale.specs.Voltage.{IsOverRange, IsVoltageInterval, IsRelative, greatest_voltage};
 
-/// A channel, whose number counts from 1, can be measured or has one fault, and never both. So `match_channel` answers each of its faults
-/// exactly where it is the channel's.
+/// A channel, whose number counts from 1, can be measured or has one fault, and never both. So `match_channel` answers
+/// each of its faults exactly where it is the channel's.
 pub fn channel_can_be_measured_or_has_one_fault()
     ensures cases { (c : Config) (channel : ℕ) → 1 ≤ channel
         → CanBeMeasured c channel ⊎ ((f : MatchFault) × IsChannelFault c channel f) }
@@ -71,8 +71,8 @@ pub fn interval_is_near()
         → CoversDoubt (1000 * nominal) uncertainty delta → IsNear (delta -ℚ units (pos 1)) v u }
 {}
 
-/// Its ends are at most 4.01 times nominal in size, rounded up, where the recorded voltage isn't over range and the uncertainty is at
-/// most a hundredth of nominal.
+/// Its ends are at most 4.01 times nominal in size, rounded up, where the recorded voltage isn't over range and the
+/// uncertainty is at most a hundredth of nominal.
 pub fn interval_is_small()
     ensures ends { (nominal uncertainty : ℕ) (recorded : Fraction) (v : Interval)
         → 0 < nominal → uncertainty ≤ 10 * nominal → ¬ IsOverRange nominal recorded
@@ -83,8 +83,8 @@ pub fn interval_is_small()
         → IsVoltageInterval nominal uncertainty recorded v → IsSmall v }
 {}
 
-/// Each delta that covers the doubt is at least 2^-47, and one of them is at most `1/100 + 2^-47`, where the uncertainty is at most a
-/// hundredth of nominal.
+/// Each delta that covers the doubt is at least 2^-47, and one of them is at most `1/100 + 2^-47`, where the
+/// uncertainty is at most a hundredth of nominal.
 pub fn doubt_is_covered()
     ensures covered { (nominal uncertainty : ℕ) → 0 < nominal → uncertainty ≤ 10 * nominal
         → (delta : Fraction) × CoversDoubt (1000 * nominal) uncertainty delta

@@ -1,14 +1,15 @@
 //! From a sample to the interval of the exact voltages that it admits, in units of 2^-48 of nominal.
 //!
-//! A channel of a configuration says what a sample x stands for: `a * x + b` volts or kilovolts. A [`Scale`] is made for a channel
-//! and the [`Supply`] once, and answers for each sample its interval, whether it is over range, and its sign, all exactly.
+//! A channel of a configuration says what a sample x stands for: `a * x + b` volts or kilovolts. A [`Scale`] is made
+//! for a channel and the [`Supply`] once, and answers for each sample its interval, whether it is over range, and its
+//! sign, all exactly.
 //!
-//! What can be divided is divided once (`parts`): a sample costs products and comparisons alone (`slope`), and which samples are
-//! over range or negative is found beforehand (`samples`).
+//! What can be divided is divided once (`parts`): a sample costs products and comparisons alone (`slope`), and which
+//! samples are over range or negative is found beforehand (`samples`).
 //!
-//! [`match_channel`] tests whether a channel of a configuration can be measured, and [`match_lamp`] which lamp's supply has a line
-//! frequency; a job and the command `levels` share both and [`MatchFault`]. The functions of [`laws`] have empty bodies: their contracts
-//! are laws of the definitions in `specs/`.
+//! [`match_channel`] tests whether a channel of a configuration can be measured, and [`match_lamp`] which lamp's supply
+//! has a line frequency; a job and the command `levels` share both and [`MatchFault`]. The functions of [`laws`] have
+//! empty bodies: their contracts are laws of the definitions in `specs/`.
 #![tactic(auto)]
 
 mod fault;

@@ -15,8 +15,9 @@ use flk_text::DecimalValue;
 
 /// The scale of a configuration's channel, whose number counts from 1, on this supply. Takes no memory.
 ///
-/// The fault is the first test that fails: `Channel` exactly where the number is above the count of analog channels; `Unit` exactly
-/// where the channel's unit isn't `V` or `kV`, in letters of any case; `Scale` exactly where its a or b is above 10000 in size.
+/// The fault is the first test that fails: `Channel` exactly where the number is above the count of analog channels;
+/// `Unit` exactly where the channel's unit isn't `V` or `kV`, in letters of any case; `Scale` exactly where its a or b
+/// is above 10000 in size.
 pub fn match_channel(channel: u16, supply: &Supply, c: &Config) -> Result<Scale, MatchFault>
     requires { 1 ≤ channel }
     ensures matched { OnOk result (CanBeMeasured c.now channel) }
@@ -42,7 +43,8 @@ const FIFTY_HERTZ: i128 = 50_000_000_000_000_000_000_000_000;
 
 const SIXTY_HERTZ: i128 = 60_000_000_000_000_000_000_000_000;
 
-/// Whether a line frequency in units of 10^-24 of a hertz is exactly the nominal one of the lamp's supply, 50 or 60 Hz. Takes no memory.
+/// Whether a line frequency in units of 10^-24 of a hertz is exactly the nominal one of the lamp's supply, 50 or 60 Hz.
+/// Takes no memory.
 pub fn is_frequency_of(lamp: Lamp, lf: DecimalValue) -> bool
     ensures { IsTrue result ↔ IsFrequencyOf lamp lf.n }
 {
@@ -52,8 +54,8 @@ pub fn is_frequency_of(lamp: Lamp, lf: DecimalValue) -> bool
     }
 }
 
-/// The lamp whose supply has this line frequency. The fault is `Lamp`, with 0 hertz, exactly where it is neither 50 nor 60 Hz. Takes no
-/// memory.
+/// The lamp whose supply has this line frequency. The fault is `Lamp`, with 0 hertz, exactly where it is neither 50 nor
+/// 60 Hz. Takes no memory.
 pub fn match_lamp(lf: DecimalValue) -> Result<Lamp, MatchFault>
     ensures lamp { IfOk result (λ lamp. IsFrequencyOf lamp lf.n) }
     ensures fault { IfErr result (IsFrequencyFault lf) }

@@ -16,7 +16,7 @@ use crate::slope::Slope;
 use crate::supply::Supply;
 use crate::unit::{VoltageUnit, unit_of};
 use flk_cfg::Analog;
-use flk_num::Interval;
+use flk_num::{Interval, crosses_threads};
 
 /// Why a channel has no scale.
 #[derive(Clone, Copy, Debug, PartialEq, Eq)]
@@ -109,8 +109,8 @@ impl Scale {
 
     /// The scale of a channel and a supply.
     ///
-    /// `Unit` exactly where the channel's unit isn't `V` or `kV`, in letters of any case. Else `Scale` exactly where the channel's a
-    /// or b is above 10000 in size. Takes no memory.
+    /// `Unit` exactly where the channel's unit isn't `V` or `kV`, in letters of any case. Else `Scale` exactly where
+    /// the channel's a or b is above 10000 in size. Takes no memory.
     pub fn new(channel: &Analog, supply: &Supply) -> Result<Scale, ScaleFault>
         ensures has { OnOk result (HasScale channel.now) }
         ensures scale { IfOk result (IsScaleOf channel.now supply.now) }
@@ -150,18 +150,19 @@ impl Scale {
         }
     }
 
-    /// The interval of a sample's voltages in units of 2^-48 of nominal, and OverRange exactly where the recorded voltage (`a * x + b` by
-    /// IEEE C37.111-1999, clause 5.3) is above four times nominal in size. Takes no memory.
+    /// The interval of a sample's voltages in units of 2^-48 of nominal, and OverRange exactly where the recorded
+    /// voltage (`a * x + b` by IEEE C37.111-1999, clause 5.3) is above four times nominal in size. Takes no memory.
     ///
-    /// The ends are the recorded voltage less the uncertainty, rounded down, and with it, rounded up, both over nominal.
+    /// The ends are the recorded voltage less the uncertainty, rounded down, and with it, rounded up, both over
+    /// nominal.
     pub fn voltage(&self, x: i32) -> Result<Interval, OverRange>
         ensures over { OnErr result (IsOverRange (nominal_of self.now) (voltage_of self.now x)) }
         ensures within { OnOk result (¬ IsOverRange (nominal_of self.now) (voltage_of self.now x)) }
         ensures interval { IfOk result
             (IsVoltageInterval (nominal_of self.now) (uncertainty_of self.now) (voltage_of self.now x)) }
 
-        // It holds every exact voltage that the sample admits, is narrow, its ends are near the recorded voltage, and they are at most
-        // 4.01 times nominal in size, rounded up.
+        // It holds every exact voltage that the sample admits, is narrow, its ends are near the recorded voltage, and
+        // they are at most 4.01 times nominal in size, rounded up.
         ensures holds { IfOk result (λ v. (u : Fraction)
             → IsAdmitted (1000 * nominal_of self.now) (uncertainty_of self.now) (voltage_of self.now x) u → Holds v u) }
         ensures narrow { IfOk result (λ v. (delta : Fraction)
@@ -199,8 +200,6 @@ impl Scale {
         }
     }
 }
-
-fn crosses_threads<T: Send + Sync>(_value: &T) {}
 
 // A scale can be handed to another thread, and used by several at once.
 fn scale_crosses_threads(scale: &Scale) {

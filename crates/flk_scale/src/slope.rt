@@ -8,8 +8,8 @@ use crate::parts::{Parts, scaled};
 
 /// `2^48 * a / divisor` for some a, and how many times a number of 32 bits it is.
 ///
-/// The quotient of a product with the rest is estimated by a product with the rest's share of the divisor, in units of 2^-64. It is
-/// right or one too low, which the rest of the product shows. So no product costs a division.
+/// The quotient of a product with the rest is estimated by a product with the rest's share of the divisor, in units of
+/// 2^-64. It is right or one too low, which the rest of the product shows. So no product costs a division.
 #[derive(Clone, Copy, Debug)]
 pub struct Slope {
     divisor: u128,

@@ -49,8 +49,8 @@ fn channel(alloc: Global, unit: &[u8], a: i128, b: i128) -> Result<Analog, Alloc
     })
 }
 
-// What a sample is answered: the ends of its interval and whether it is negative, or None over range. A channel without a scale
-// answers nothing.
+// What a sample is answered: the ends of its interval and whether it is negative, or None over range. A channel without
+// a scale answers nothing.
 fn answer(
     alloc: Global,
     unit: &[u8],

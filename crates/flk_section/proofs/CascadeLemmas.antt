@@ -1,7 +1,7 @@
 -- From section to section: the last output lies within the last radius of the rounded one.
 use Rattle.std.proofs.Math.Logic.{∥∥₁_elim}
 use Rattle.std.proofs.Math.Dec.{T_prop}
-use Rattle.std.proofs.Common.{◌≡◌, ◌<◌, Bool, true, false, List, [], ◌∷◌, map, length, drop, refl, sym, ap, subst, ◌∙◌, arith}
+use Rattle.std.proofs.Common.{◌≡◌, ◌<◌, Bool, true, false, List, [], ◌∷◌, map, length, drop, refl, sym, subst, ◌∙◌, arith}
 use Rattle.std.proofs.Math.IntN.{ℤ, pos}
 use Rattle.std.specs.Prelude.{◌≤ℤ◌}
 use Rattle.std.specs.List.{All, AllZip}
@@ -20,6 +20,7 @@ use Rattle.flk_design.specs.Design.{IsDesign}
 use Rattle.flk_design.proofs.DesignLemmas.{design_unique}
 use Rattle.flk_front.specs.declared.point.Point.{Point}
 use Rattle.flk_front.specs.Front.{IsWithin}
+use Rattle.flk_front.proofs.AdaptorLaws.{point_same}
 use Rattle.flk_section.specs.Cascade.{AreSections, IsCascade, IsWeightedSignal}
 use Rattle.flk_section.specs.RoundedCascade.{last_output}
 use Rattle.flk_section.specs.Points.{mids, greatest_radius}
@@ -190,11 +191,6 @@ answers_exist f (p ∷ ps) =
     let rest = answers_exist f ps in
     let q : Point = record { mid = last_output f.coefs true (mids ps) p.mid; radius = last_radius f (greatest_radius (p ∷ ps)) } in
     (q ∷ rest.0, (record { mid = refl; radius = refl }, rest.1))
-
-point_same : (p q : Point) → p.mid ≡ q.mid → p.radius ≡ q.radius → p ≡ q
-point_same p q e f =
-    let made : ℤ → ℤ → Point = λ m r. record { mid = m; radius = r } in
-    ap (λ (z : ℤ). made z p.radius) e ∙ ap (λ (z : ℤ). made q.mid z) f
 
 pub answers_unique : (f : FilterNumbers) (ps qs rs : List Point) → AreAnswers f ps qs → AreAnswers f ps rs → qs ≡ rs
 answers_unique f [] [] [] h j = refl

@@ -18,7 +18,7 @@ use Rattle.flk_cert.specs.RoundedSection.{outputs}
 use Rattle.flk_cert.specs.Bound.{IsInputNear, AllNear, IsErrorWithin}
 use Rattle.flk_cert.proofs.RunLemmas.{IsWholeSection, held_one, sum_of, over_coefficient, over_sum_of, to_numerators}
 use Rattle.flk_cert.proofs.KeptLemmas.{before, error_one, error_two}
-use Rattle.flk_cert.proofs.PromiseLemmas.{over_before, over_first_error, over_second_error, bounds_each}
+use Rattle.flk_cert.proofs.PromiseLemmas.{over_before, over_first_error, over_second_error, bounds_each, fine_positive}
 use Rattle.flk_cert.proofs.GainLemmas.{gain_bounds, gain_bounds_first, gain_bounds_second, gain_keeps_second, gain_input_natural, gain_rounding_natural}
 use Rattle.flk_section.specs.Cascade.{AreSections}
 
@@ -26,9 +26,6 @@ use Rattle.flk_section.specs.Cascade.{AreSections}
 
 scale_positive : (delta : ℕ) → 0 < delta → 0 < delta * 2 ^ 48
 scale_positive delta some = mul-pos some (omega arith)
-
-fine_positive : (delta : ℕ) → 0 < delta → 0 < delta * 2 ^ 48 * 2 ^ 32
-fine_positive delta some = mul-pos (scale_positive delta some) (omega arith)
 
 -- the fraction of a numerator
 abbrev fraction_of : (delta : ℕ) → 0 < delta → ℤ → Fraction

@@ -12,5 +12,6 @@ pub mod OwnLemmas
 pub mod ChainLemmas
 pub mod ChainBound
 pub mod WholeLemmas
+pub mod WholeExists
 pub mod FormLemmas
 pub mod OwningLemmas

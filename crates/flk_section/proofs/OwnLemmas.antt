@@ -67,7 +67,7 @@ scaled_near g n = unit_near (g *ℤ n)
 size_of_sum : (a b : ℤ) → pos 0 ≤ℤ a → pos 0 ≤ℤ b → unsigned_abs (a +ℤ b) ≡ unsigned_abs a + unsigned_abs b
 size_of_sum a b na nb = omega (arith, ints, na, nb)
 
-natural_sum : (a b : ℤ) → pos 0 ≤ℤ a → pos 0 ≤ℤ b → pos 0 ≤ℤ (a +ℤ b)
+pub natural_sum : (a b : ℤ) → pos 0 ≤ℤ a → pos 0 ≤ℤ b → pos 0 ≤ℤ (a +ℤ b)
 natural_sum a b na nb = omega (arith, ints, na, nb)
 
 pub amount_both : (S delta : ℕ) (b c : OwnBound) → IsNaturalBound b → IsNaturalBound c → amount S delta (both_bounds b c) ≡ amount S delta b + amount S delta c

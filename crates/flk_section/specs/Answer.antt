@@ -17,8 +17,8 @@ pub record CascadeStands (c : Cascade) (ps : List Point) : Type 0 where
   pub sections : StandInRow true c.sections (mids ps)
   pub greatest : c.greatest ≡ greatest_radius ps
 
--- The answer q to the point p after the points ps: the last output for its middle, and the last radius that follows from the greatest radius
--- so far.
+-- The answer q to the point p after the points ps: the last output for its middle, and the last radius that follows
+-- from the greatest radius so far.
 pub record IsAnswer (f : FilterNumbers) (ps : List Point) (p q : Point) : Type 0 where
   pub mid : q.mid ≡ last_output f.coefs true (mids ps) p.mid
   pub radius : q.radius ≡ last_radius f (greatest_radius (p ∷ ps))

@@ -1,8 +1,10 @@
--- One bound for the sections behind the first, in a row: what it promises, and the rule by which it is made. The rule is the project's own.
+-- One bound for the sections behind the first, in a row: what it promises, and the rule by which it is made. The rule
+-- is the project's own.
 --
--- The promise is that of a section's gain, with the sections in a row in place of one section. The rule follows the error of the last output
--- back through 4,097 samples. The weights of their forms bound what the input's error brings in, their shares what rounding of products
--- does. What rounding of the forms leaves, and the form before the first of these samples, are bounded by the sections' own gains.
+-- The promise is that of a section's gain, with the sections in a row in place of one section. The rule follows the
+-- error of the last output back through 4,097 samples. The weights of their forms bound what the input's error brings
+-- in, their shares what rounding of products does. What rounding of the forms leaves, and the form before the first of
+-- these samples, are bounded by the sections' own gains.
 use Rattle.std.specs.Prelude.{ℕ, ◌^◌, false, List, [], ◌∷◌, map, drop, ℤ, pos, ◌+ℤ◌, ◌*ℤ◌, ◌<ℤ◌}
 use Rattle.flk_exact.specs.Fraction.{Fraction, ◌≤ℚ◌, whole}
 use Rattle.flk_exact.specs.Rounding.{ceil_of}
@@ -19,8 +21,9 @@ use Rattle.flk_section.specs.Filter.{FilterNumbers, last_radius}
 
 -- ---- the promise
 
--- Whatever the inputs and their number: where each exact input of the first of these sections is within s of the rounded one's, the newest
--- outputs of the last are within `input * s / 2^32 + rounding` units of each other. All start from zeros.
+-- Whatever the inputs and their number: where each exact input of the first of these sections is within s of the
+-- rounded one's, the newest outputs of the last are within `input * s / 2^32 + rounding` units of each other. All start
+-- from zeros.
 abbrev pub BoundsChain : List Coefs → (input rounding : ℤ) → Type 0
 BoundsChain ks input rounding =
     (s x y : Fraction) (xs ys : List Fraction) (X : ℤ) (Xs : List ℤ)
@@ -68,8 +71,9 @@ filter_numbers gs = record {
   chain_rounding = chain_rounding (drop 1 gs);
 }
 
--- The limits under which there is one: the own bounds and the forms' numbers are below 2^60 in size, the input below 2^36, the share of rounding
--- below 2^40, and the last radius that follows from the greatest radius of the adaptor below 2^60.
+-- The limits under which there is one: the own bounds and the forms' numbers are below 2^60 in size, the input below
+-- 2^36, the share of rounding below 2^40, and the last radius that follows from the greatest radius of the adaptor
+-- below 2^60.
 pub record HasChainBound (gs : List GainNumbers) : Type 0 where
   pub bounds : AreSmallBounds first_bound (drop 1 gs)
   pub numbers : StaySmallNumbers (pos (2 ^ 32)) (drop 1 gs) (no_form (drop 1 gs)) chain_samples

@@ -3,8 +3,8 @@ use Rattle.std.specs.Prelude.{List, ℤ}
 use Rattle.flk_cert.specs.declared.coefs.Coefs.{Coefs}
 use Rattle.flk_section.specs.Radius.{radius_by}
 
--- The coefficients of the sections, the gain of the first one, and the bound of the others in a row: inputs are over 2^32, shares of rounding
--- in units.
+-- The coefficients of the sections, the gain of the first one, and the bound of the others in a row: inputs are over
+-- 2^32, shares of rounding in units.
 pub record FilterNumbers : Type 0 where
   pub coefs : List Coefs
   pub first_input : ℤ
@@ -12,6 +12,7 @@ pub record FilterNumbers : Type 0 where
   pub chain_input : ℤ
   pub chain_rounding : ℤ
 
--- the radius behind the last section, from the radius before the first: first by the gain of the first section, then by the bound of the others
+-- the radius behind the last section, from the radius before the first: first by the gain of the first section, then by
+-- the bound of the others
 abbrev pub last_radius : FilterNumbers → ℤ → ℤ
 last_radius f r = radius_by f.chain_input f.chain_rounding (radius_by f.first_input f.first_rounding r)

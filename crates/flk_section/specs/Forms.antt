@@ -1,9 +1,11 @@
--- Forms of the errors of the states of sections in a row, and how one comes from another over one sample. The rules are the project's own.
+-- Forms of the errors of the states of sections in a row, and how one comes from another over one sample. The rules are
+-- the project's own.
 --
--- A form has two whole numbers over 2^32 for each section: `u` times the error of its first state and `v` times that of its second are summed
--- over all sections. A form of the states after a sample is another form of the states before it, plus a *weight* times the error of the
--- first section's input; what rounding adds is bounded by a *share*. Over the samples this is the impulse response of the sections, read
--- from the last output back. Sections and their numbers stand in the order of the signal.
+-- A form has two whole numbers over 2^32 for each section: `u` times the error of its first state and `v` times that of
+-- its second are summed over all sections. A form of the states after a sample is another form of the states before it,
+-- plus a *weight* times the error of the first section's input; what rounding adds is bounded by a *share*. Over the
+-- samples this is the impulse response of the sections, read from the last output back. Sections and their numbers
+-- stand in the order of the signal.
 use Rattle.std.specs.Prelude.{ℕ, zero, suc, ◌+◌, ◌^◌, ◌<◌, List, [], ◌∷◌, map, ℤ, pos, ◌+ℤ◌, ◌*ℤ◌, if◌then◌else◌}
 use Rattle.std.specs.Int.RustNames.{unsigned_abs}
 use Rattle.flk_exact.specs.Rounding.{floor_of}
@@ -15,8 +17,8 @@ use Rattle.flk_section.specs.OwnBounds.{no_bound, first_state_bound, second_stat
 
 -- ---- one section
 
--- What multiplies the error of its output: z, which comes from the sections behind it, and what its first state takes up of the output,
--- rounded down. It is also the number of the new form for the first state.
+-- What multiplies the error of its output: z, which comes from the sections behind it, and what its first state takes
+-- up of the output, rounded down. It is also the number of the new form for the first state.
 abbrev pub number_at_output : GainNumbers → ℤ → FormPart → ℤ
 number_at_output g z f = z +ℤ floor_of (fed_back g.coefs f.u f.v) (pos (2 ^ 32))
 

@@ -1,5 +1,5 @@
--- What the gains of sections in a row say by themselves of the errors of their inputs, outputs and states. Each bound is by the error of the
--- first section's input. The rules are the project's own.
+-- What the gains of sections in a row say by themselves of the errors of their inputs, outputs and states. Each bound
+-- is by the error of the first section's input. The rules are the project's own.
 use Rattle.std.specs.Prelude.{◌^◌, Bool, List, [], ◌∷◌, ℤ, pos, ◌+ℤ◌, ◌*ℤ◌, ◌<ℤ◌, if◌then◌else◌}
 use Rattle.std.proofs.Common.{int_eq}
 use Rattle.std.specs.Int.RustNames.{unsigned_abs}
@@ -7,8 +7,8 @@ use Rattle.flk_exact.specs.Rounding.{ceil_of}
 use Rattle.flk_cert.specs.Gain.{GainNumbers}
 use Rattle.flk_section.specs.declared.own.OwnBound.{OwnBound}
 
--- An `OwnBound` says: an error of at most `input * s / 2^32 + rounding` units, where that of the first section's input is at most s units.
--- This is the one of the first section's input itself.
+-- An `OwnBound` says: an error of at most `input * s / 2^32 + rounding` units, where that of the first section's input
+-- is at most s units. This is the one of the first section's input itself.
 abbrev pub first_bound : OwnBound
 first_bound = record { input = pos (2 ^ 32); rounding = pos 0 }
 

@@ -1,5 +1,5 @@
--- How far the exact signal may lie from the rounded one behind each section of a cascade by the sections' own gains, in units of 2^-48. This
--- keeps the numbers of the sections small. The rule is the project's own.
+-- How far the exact signal may lie from the rounded one behind each section of a cascade by the sections' own gains, in
+-- units of 2^-48. This keeps the numbers of the sections small. The rule is the project's own.
 use Rattle.std.specs.Prelude.{◌^◌, List, [], ◌∷◌, ℤ, pos, ◌+ℤ◌, ◌*ℤ◌, ◌<ℤ◌}
 use Rattle.std.specs.List.{All}
 use Rattle.flk_exact.specs.Fraction.{Fraction}
@@ -31,8 +31,8 @@ abbrev pub FirstStartsAtRest : List Gain → Type 0
 FirstStartsAtRest [] = Unit {0}
 FirstStartsAtRest (g ∷ gs) = StartsAtRest (coefs_of g)
 
--- The gains bound the numbers of a cascade: each input gain is below 2^36, the first section may start from one, and from the greatest radius
--- of the adaptor on each radius is below 2^60.
+-- The gains bound the numbers of a cascade: each input gain is below 2^36, the first section may start from one, and
+-- from the greatest radius of the adaptor on each radius is below 2^60.
 pub record FitsCascade (gains : List Gain) : Type 0 where
   pub inputs : All (λ g. input_of g <ℤ pos (2 ^ 36)) gains
   pub start : FirstStartsAtRest gains

@@ -1,5 +1,5 @@
--- The cascade as the program runs it: sections with rounded products in a row. Values are whole numbers of units, which are 2^-48 each.
--- Lists have the newest value first. The rounding is the project's own.
+-- The cascade as the program runs it: sections with rounded products in a row. Values are whole numbers of units, which
+-- are 2^-48 each. Lists have the newest value first. The rounding is the project's own.
 use Rattle.std.specs.Prelude.{Bool, false, List, [], ◌∷◌, ℤ}
 use Rattle.flk_cert.specs.declared.coefs.Coefs.{Coefs}
 use Rattle.flk_cert.specs.RoundedSection.{state, output, outputs}

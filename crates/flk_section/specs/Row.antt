@@ -19,8 +19,8 @@ StandInRow from_one (s ∷ ss) Xs = (starts_from_one s ≡ from_one) × SectionS
 
 -- ---- what the code keeps
 
--- The sections stand in a row for inputs that lie, with the next one, X, within r of the first section's rest; and the radii from r on are
--- below 2^60.
+-- The sections stand in a row for inputs that lie, with the next one, X, within r of the first section's rest; and the
+-- radii from r on are below 2^60.
 pub record AreReady (ss : List Section) (X : ℤ) : Type 0 where
   pub from_one : Bool
   pub r : ℤ

@@ -60,7 +60,8 @@ fn step_in_row(sections: &mut [Section], mid: i128) -> i128
     signal
 }
 
-/// The weighting filter of the flickermeter, IEC 61000-4-15, block 3: seven sections in a row. Values are in units of 2^-48.
+/// The weighting filter of the flickermeter, IEC 61000-4-15, block 3: seven sections in a row. Values are in units of
+/// 2^-48.
 #[derive(Clone, Copy)]
 pub struct Cascade {
     whole: Whole,
@@ -77,7 +78,8 @@ pub struct Cascade {
 impl Cascade {
     ghost use Rattle.flk_section.specs.Answer.{whole_in, CascadeStands, IsAnswer};
 
-    /// The cascade with this bound and the gains that it holds, before its first point. The first section starts from one, the others from zeros.
+    /// The cascade with this bound and the gains that it holds, before its first point. The first section starts from
+    /// one, the others from zeros.
     pub fn new(whole: Whole) -> Cascade
         ensures whole { whole_in result ≡ whole }
         ensures stands { CascadeStands result [] }
@@ -105,13 +107,14 @@ impl Cascade {
         }
     }
 
-    /// Takes the next point of the adaptor, whose `mid` and `radius` are from 0 to 66 times 2^48 units, and answers the point of the weighted
-    /// signal. Its `mid` goes through the sections with rounded products. Its `radius` follows from the greatest radius of all points so far:
-    /// that radius times the first gain's input over 2^32, rounded up, and the gain's rounding; then in the same way by the bound of the other
-    /// sections in a row. Both `mid` and `radius` are below 2^60 in size.
+    /// Takes the next point of the adaptor, whose `mid` and `radius` are from 0 to 66 times 2^48 units, and answers the
+    /// point of the weighted signal. Its `mid` goes through the sections with rounded products. Its `radius` follows
+    /// from the greatest radius of all points so far: that radius times the first gain's input over 2^32, rounded up,
+    /// and the gain's rounding; then in the same way by the bound of the other sections in a row. Both `mid` and
+    /// `radius` are below 2^60 in size.
     ///
-    /// For exact inputs that lie in the points taken, the exact output of the sections in a row lies in the answer. With the coefficients of a
-    /// lamp's design this is the lamp's weighted signal.
+    /// For exact inputs that lie in the points taken, the exact output of the sections in a row lies in the answer.
+    /// With the coefficients of a lamp's design this is the lamp's weighted signal.
     pub fn step(&mut self, p: Point) -> Point
         requires { IsPointInRange p }
         ensures whole { whole_in self.new ≡ whole_in self.old }

@@ -73,9 +73,9 @@ pub(crate) fn chain_bound(gains: &[Gain]) -> Option<ChainBound>
     })
 }
 
-/// The bound of a whole cascade with these gains, which fit. There is none exactly where a number of the rule reaches its limit: a bound by
-/// the sections' own gains or a number of a form 2^60, the input 2^36, the share of rounding 2^40, or the radius behind the last section
-/// that follows from the adaptor's greatest radius 2^60.
+/// The bound of a whole cascade with these gains, which fit. There is none exactly where a number of the rule reaches
+/// its limit: a bound by the sections' own gains or a number of a form 2^60, the input 2^36, the share of rounding
+/// 2^40, or the radius behind the last section that follows from the adaptor's greatest radius 2^60.
 pub fn whole_of(gains: &[Gain; 7]) -> Option<Whole>
     requires { FitsCascade gains.now }
     ensures some { IsSome result ↔ (HasChainBound (map gain_numbers gains.now)) }

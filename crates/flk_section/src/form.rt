@@ -1,4 +1,5 @@
-//! Forms of the state errors of the sections behind the first, followed back from the last output: `specs/Forms` says what they are.
+//! Forms of the state errors of the sections behind the first, followed back from the last output: `specs/Forms` says
+//! what they are.
 
 ghost use Rattle.std.specs.Prelude.{◌≡◌, ◌^◌, ◌<◌, ◌≤◌, ◌↔◌, length, map, IsTrue, IsSome, IfSome, pos, ◌+ℤ◌, ◌*ℤ◌};
 ghost use Rattle.std.specs.Int.RustNames.{unsigned_abs};

@@ -51,8 +51,8 @@ pub fn greater_radius_gives_no_smaller()
     ensures { (w : Whole) (r s : ℤ) → r ≤ℤ s → last_radius (numbers_of w) r ≤ℤ last_radius (numbers_of w) s }
 {}
 
-/// No answer's radius is above the one that follows from a radius that is at least that of each point, and so from the stated bound of the
-/// adaptor's points, rounded up to whole units. (The exponent is 16 or 17.)
+/// No answer's radius is above the one that follows from a radius that is at least that of each point, and so from the
+/// stated bound of the adaptor's points, rounded up to whole units. (The exponent is 16 or 17.)
 pub fn answers_are_narrow()
     ensures any { (w : Whole) (ps qs : List Point) (r : ℤ) → pos 0 ≤ℤ r → AreAnswers (numbers_of w) ps qs
         → All (λ p. p.radius ≤ℤ r) ps
@@ -81,8 +81,8 @@ pub fn whole_bounds_the_chain()
     ensures radius { (w : Whole) → last_radius (numbers_of w) (pos greatest_point) <ℤ pos (2 ^ 60) }
 {}
 
-/// The bounds of cascades whose gains are those of the certificates that are made for the same sections have the same numbers: the digits of
-/// all answers follow from the coefficients.
+/// The bounds of cascades whose gains are those of the certificates that are made for the same sections have the same
+/// numbers: the digits of all answers follow from the coefficients.
 pub fn certified_sections_have_one_filter()
     ensures { (ks : List Coefs) (gs hs : List Gain) (w v : Whole) → AreCertified ks gs → AreCertified ks hs
         → IsWholeOf gs w → IsWholeOf hs v

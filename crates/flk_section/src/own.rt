@@ -20,7 +20,8 @@ const ONE: i128 = 4_294_967_296;
 // 2^60
 const LIMIT: i128 = 1_152_921_504_606_846_976;
 
-/// A bound on an error by that of the first section's input: with at most s units there it is at most `input * s / 2^32 + rounding` units.
+/// A bound on an error by that of the first section's input: with at most s units there it is at most
+/// `input * s / 2^32 + rounding` units.
 #[derive(Clone, Copy, Debug, PartialEq, Eq)]
 pub struct OwnBound {
     pub input: i128,
@@ -177,7 +178,8 @@ fn section_bounds(gain: &Gain, b: OwnBound, part: FormPart) -> Option<SectionBou
     })
 }
 
-/// The bounds of all signals of the sections and of a form of their states; or none where a bound of a signal or a state reaches 2^60.
+/// The bounds of all signals of the sections and of a form of their states; or none where a bound of a signal or a
+/// state reaches 2^60.
 pub(crate) fn own_bounds(gains: &[Gain], form: [FormPart; 6]) -> Option<Owned>
     requires count { length gains.now ≡ 6 }
     requires inputs { All (λ g. input_of g <ℤ pos (2 ^ 36)) gains.now }

@@ -79,8 +79,9 @@ fn stay_small(gains: &[Gain]) -> bool
     true
 }
 
-/// Whether a cascade can be made with these gains: exactly where each gain's input is below 2^36, the first gain's coefficients have
-/// `b1 = -b0` and `b2 = 0`, and the radii behind the seven sections that follow from a radius of 66 times 2^48 units are all below 2^60.
+/// Whether a cascade can be made with these gains: exactly where each gain's input is below 2^36, the first gain's
+/// coefficients have `b1 = -b0` and `b2 = 0`, and the radii behind the seven sections that follow from a radius of 66
+/// times 2^48 units are all below 2^60.
 pub fn fits(gains: &[Gain; 7]) -> bool
     ensures { IsTrue result ↔ FitsCascade gains.now }
 {

@@ -12,7 +12,8 @@ ghost use Rattle.flk_section.specs.Kept.{as_state, IsReachedState};
 use crate::state::{State, output_of, state_after};
 use flk_cert::Gain;
 
-// The first state before the first sample. A section from one begins as if its input had always been 1, which is 2^48 units, with the output 0.
+// The first state before the first sample. A section from one begins as if its input had always been 1, which is 2^48
+// units, with the output 0.
 fn first_state(b0: i64, from_one: bool) -> i128
     requires { unsigned_abs b0 ≤ 2 ^ 33 }
     ensures { result ≡ (if from_one then neg_ℤ (pos 65536 *ℤ b0) else pos 0) }
@@ -24,7 +25,8 @@ fn first_state(b0: i64, from_one: bool) -> i128
     }
 }
 
-/// A filter section of the second order in direct form II transposed, with each product rounded down. Values are in units of 2^-48.
+/// A filter section of the second order in direct form II transposed, with each product rounded down. Values are in
+/// units of 2^-48.
 #[derive(Clone, Copy)]
 pub struct Section {
     gain: Gain,
@@ -37,8 +39,8 @@ pub struct Section {
 impl Section {
     ghost use Rattle.flk_section.specs.Section.{gain_of, coefs_in, starts_from_one, SectionStands};
 
-    /// The section with the coefficients of the gain, before its first sample. From one it begins as if its input had always been 1 and its
-    /// output 0, which needs coefficients with `b1 = -b0` and `b2 = 0`; else with zeros.
+    /// The section with the coefficients of the gain, before its first sample. From one it begins as if its input had
+    /// always been 1 and its output 0, which needs coefficients with `b1 = -b0` and `b2 = 0`; else with zeros.
     pub fn new(gain: Gain, from_one: bool) -> Section
         requires { IsTrue from_one → StartsAtRest (coefs_of gain) }
         ensures gain { gain_of result ≡ gain }
@@ -64,8 +66,8 @@ impl Section {
 
     /// Takes the next input, which is below 2^60 units in size, and answers the output. The gain's input is below 2^36.
     ///
-    /// For exact inputs that are always within s of the inputs taken, the exact output is within `input * s / 2^32 + rounding` of the answer,
-    /// with the gain that the section holds.
+    /// For exact inputs that are always within s of the inputs taken, the exact output is within
+    /// `input * s / 2^32 + rounding` of the answer, with the gain that the section holds.
     pub fn step(&mut self, mid: i128) -> i128
         requires mid { unsigned_abs mid < 2 ^ 60 }
         requires input { input_of (gain_of self.old) <ℤ pos (2 ^ 36) }

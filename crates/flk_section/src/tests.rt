@@ -54,8 +54,9 @@ fn high_pass_at_rest(rt: HostRuntime) -> Result<(), Fail> {
     Ok(())
 }
 
-// A lamp at a rate: the inputs and the roundings of its gains, the radii that follow from 0 by them, the bound of the input's error that they
-// give behind the last section, the input and the rounding of the sections behind the first in a row, and the radius that follows from 0.
+// A lamp at a rate: the inputs and the roundings of its gains, the radii that follow from 0 by them, the bound of the
+// input's error that they give behind the last section, the input and the rounding of the sections behind the first in
+// a row, and the radius that follows from 0.
 #[derive(Clone, Copy)]
 struct Row {
     lamp: Lamp,

@@ -21,9 +21,9 @@ fn behind_first(gains: &[Gain; 7]) -> &[Gain]
     &gains[1..]
 }
 
-/// What bounds the digits of a cascade: the gains of its seven sections, and one bound for the sections behind the first in a row. With exact
-/// inputs of these that are always within r units of the rounded ones, the exact output of the last is always within
-/// `input*r/2^32 + rounding` units of the rounded one. `whole_of` alone makes one.
+/// What bounds the digits of a cascade: the gains of its seven sections, and one bound for the sections behind the
+/// first in a row. With exact inputs of these that are always within r units of the rounded ones, the exact output of
+/// the last is always within `input*r/2^32 + rounding` units of the rounded one. `whole_of` alone makes one.
 #[derive(Clone, Copy)]
 pub struct Whole {
     gains: [Gain; 7],

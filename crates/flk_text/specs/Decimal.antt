@@ -9,8 +9,8 @@ use Rattle.flk_text.specs.declared.decimals.NumFault.TheVariants.{Syntax, Range}
 abbrev pub IsUnits : ℕ → ℕ → ℕ → ℕ → Type 0
 IsUnits n right left u = u * 10 ^ left ≡ n * 10 ^ (right + 24)
 
--- u units of 10^-24 are in the set: they are m * 10^e, where m is 0 or a whole number that 10 doesn't divide, m has at most 18
--- digits, e is at least -24 (it is `places` - 24), and the value is at most 10^12
+-- u units of 10^-24 are in the set: they are m * 10^e, where m is 0 or a whole number that 10 doesn't divide, m has at
+-- most 18 digits, e is at least -24 (it is `places` - 24), and the value is at most 10^12
 pub record IsInSet (u : ℕ) : Type 0 where
   pub m : ℕ
   pub places : ℕ
@@ -42,7 +42,7 @@ IsAnswer text (Ok d) = IsDecimal text d.n
 IsAnswer text (Err Syntax) = IsForm text → ⊥
 IsAnswer text (Err Range) = IsForm text × ((z : ℤ) → IsDecimal text z → ⊥)
 
--- m * 10^(up - down), where 10 doesn't divide m, isn't in the set: m has more than 18 digits, or its exponent is below -24, or
--- the value is above 10^12
+-- m * 10^(up - down), where 10 doesn't divide m, isn't in the set: m has more than 18 digits, or its exponent is below
+-- -24, or the value is above 10^12
 abbrev pub IsOutOfRange : ℕ → ℕ → ℕ → Type 0
 IsOutOfRange m up down = (10 ^ 18 ≤ m) ⊎ ((up + 24 < down) ⊎ (10 ^ 12 * 10 ^ down < m * 10 ^ up))

@@ -26,7 +26,8 @@ after_line bytes = after_first (is_byte 10) bytes
 abbrev pub ends_last_line : ℕ → Bool
 ends_last_line b = eqb b 10 || eqb b 26
 
--- the last line: the bytes before the first LF or 1A, or all of them where there is neither, without one CR at their end
+-- the last line: the bytes before the first LF or 1A, or all of them where there is neither, without one CR at
+-- their end
 abbrev pub last_line_of : List ℕ → List ℕ
 last_line_of bytes = without_cr (before_first ends_last_line bytes)
 
@@ -35,7 +36,8 @@ abbrev pub without_lf : List ℕ → List ℕ
 without_lf [] = []
 without_lf (b ∷ bs) = cond (eqb b 10) bs (b ∷ bs)
 
--- what follows the last line: the bytes after the LF with which it ends, or those from the 1A on before which it ends, or none
+-- what follows the last line: the bytes after the LF with which it ends, or those from the 1A on before which it ends,
+-- or none
 abbrev pub tail_of : List ℕ → List ℕ
 tail_of bytes = without_lf (drop (position_or_len ends_last_line bytes) bytes)
 

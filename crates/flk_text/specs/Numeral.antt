@@ -16,13 +16,16 @@ number_from n ds = fold (λ n b. n * 10 + (b - 48)) n ds
 
 -- nothing, a plus, or a minus
 abbrev pub IsSign : List ℕ → Bool → Type 0
-IsSign sign minus = ((sign ≡ []) × (minus ≡ false)) ⊎ (((sign ≡ 43 ∷ []) × (minus ≡ false)) ⊎ ((sign ≡ 45 ∷ []) × (minus ≡ true)))
+IsSign sign minus =
+    ((sign ≡ []) × (minus ≡ false))
+    ⊎ (((sign ≡ 43 ∷ []) × (minus ≡ false)) ⊎ ((sign ≡ 45 ∷ []) × (minus ≡ true)))
 
 -- nothing, or a point and digits
 abbrev pub IsFraction : List ℕ → List ℕ → Type 0
 IsFraction part ds = ((part ≡ []) × (ds ≡ [])) ⊎ ((part ≡ 46 ∷ ds) × AreDigits ds)
 
--- `E` or `e`, a sign, and one to three digits; it moves the point right, or left where the sign is a minus, by their number
+-- `E` or `e`, a sign, and one to three digits; it moves the point right, or left where the sign is a minus, by their
+-- number
 pub record IsPowerOfTen (part : List ℕ) (right left : ℕ) : Type 0 where
   pub letter : ℕ
   pub sign : List ℕ
@@ -41,8 +44,8 @@ pub record IsPowerOfTen (part : List ℕ) (right left : ℕ) : Type 0 where
 abbrev pub IsExponent : List ℕ → ℕ → ℕ → Type 0
 IsExponent part right left = ((part ≡ []) × (right ≡ 0) × (left ≡ 0)) ⊎ IsPowerOfTen part right left
 
--- what a decimal says: whether it has a minus, its digits before and after the point, and how many places its exponent moves
--- the point to the right and to the left
+-- what a decimal says: whether it has a minus, its digits before and after the point, and how many places its exponent
+-- moves the point to the right and to the left
 pub record Numeral : Type 0 where
   pub minus : Bool
   pub whole : List ℕ
@@ -50,8 +53,8 @@ pub record Numeral : Type 0 where
   pub right : ℕ
   pub left : ℕ
 
--- the text is that of the decimal: a sign, the digits before the point, at most one point with the digits after it, and an
--- exponent; there is at least one digit
+-- the text is that of the decimal: a sign, the digits before the point, at most one point with the digits after it, and
+-- an exponent; there is at least one digit
 pub record IsNumeral (text : List ℕ) (d : Numeral) : Type 0 where
   pub sign : List ℕ
   pub fraction : List ℕ

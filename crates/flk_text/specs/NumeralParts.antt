@@ -1,4 +1,5 @@
--- The parts of a number's text as they are found from the left. Contracts of private functions cite this file: `Numeral` says what a text is.
+-- The parts of a number's text as they are found from the left. Contracts of private functions cite this file:
+-- `Numeral` says what a text is.
 use Rattle.std.specs.Prelude.{ℕ, ◌+◌, Bool, true, false, ◌&&◌, ◌||◌, leb, ltb, eqb, List, [], ◌∷◌, length, take, drop, Option, Some, None, if◌then◌else◌}
 use Rattle.std.specs.List.{prefix_len}
 use Rattle.flk_text.specs.Numeral.{is_digit, number_from, Numeral}
@@ -45,7 +46,8 @@ numeral_of text =
     let s = sign_of text in
     let f = fraction_of (after_digits s.1) in
     if eqb (length (digits_of s.1) + length f.0) 0 then None
-    else exponent_of f.1 >>= λ e. Some (record { minus = s.0; whole = digits_of s.1; fraction = f.0; right = e.0; left = e.1 })
+    else exponent_of f.1 >>= λ e.
+    Some (record { minus = s.0; whole = digits_of s.1; fraction = f.0; right = e.0; left = e.1 })
 
 -- whether a whole number's text has a minus, and its digits, or None where it isn't of that form
 unfoldable pub whole_of : List ℕ → Option (Bool × List ℕ)

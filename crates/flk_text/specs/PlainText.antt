@@ -2,7 +2,8 @@
 use Rattle.std.specs.Prelude.{ℕ, zero, suc, ◌+◌, ◌/◌, ◌%◌, ◌^◌, cond, eqb, List, [], ◌∷◌, ◌++◌, ℤ, pos, negsuc}
 use Rattle.std.specs.Fmt.{decimal}
 
--- f units of 10^-k, below 1, as digits after a point: the first digit, and then those of what remains until nothing remains
+-- f units of 10^-k, below 1, as digits after a point: the first digit, and then those of what remains until nothing
+-- remains
 unfoldable pub places_below : ℕ → ℕ → List ℕ
 places_below zero f = []
 places_below (suc k) f = cond (eqb f 0) [] ((48 + f / 10 ^ k) ∷ places_below k (f % 10 ^ k))

@@ -27,7 +27,8 @@ pub record IsWholeValue (text : List ℕ) (z : ℤ) : Type 0 where
 abbrev pub IsWholeForm : List ℕ → Type 0
 IsWholeForm text = (minus : Bool) × (n : ℕ) × IsWhole text minus n
 
--- the value; Syntax where the text isn't of the form; Range where it is of the form and its value is above 10^12 in size
+-- the value; Syntax where the text isn't of the form; Range where it is of the form and its value is above 10^12
+-- in size
 abbrev pub IsWholeAnswer : List ℕ → Result ℤ NumFault → Type 0
 IsWholeAnswer text (Ok z) = IsWholeValue text z
 IsWholeAnswer text (Err Syntax) = IsWholeForm text → ⊥

@@ -21,7 +21,8 @@ impl fmt::Display for Billionths {
     }
 }
 
-/// The least and the greatest value of an interval, each a number of billionths, printed with the word `to` between them.
+/// The least and the greatest value of an interval, each a number of billionths, printed with the word `to` between
+/// them.
 #[derive(Clone, Copy, Debug)]
 pub struct Ends(pub u128, pub u128);
 

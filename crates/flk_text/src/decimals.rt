@@ -25,12 +25,12 @@ pub enum NumFault {
     Range,
 }
 
-/// The value of a decimal's text. A decimal is a sign `+` or `-` or none, then digits with at most one point and at least one
-/// digit, then nothing, or `E` or `e` with a sign or none and one to three digits.
+/// The value of a decimal's text. A decimal is a sign `+` or `-` or none, then digits with at most one point and at
+/// least one digit, then nothing, or `E` or `e` with a sign or none and one to three digits.
 ///
-/// `Syntax` exactly where the text is of no such form. Else the value is m times 10^e, where m is 0 or a whole number that 10
-/// doesn't divide, and the answer is `Range` exactly where m has more than 18 digits, or e is below -24 and m isn't 0, or the
-/// value is above 10^12 in size.
+/// `Syntax` exactly where the text is of no such form. Else the value is m times 10^e, where m is 0 or a whole number
+/// that 10 doesn't divide, and the answer is `Range` exactly where m has more than 18 digits, or e is below -24 and m
+/// isn't 0, or the value is above 10^12 in size.
 pub fn decimal(text: &[u8]) -> Result<DecimalValue, NumFault>
     ensures answer { IsAnswer text.now result }
     ensures small { IfOk result (λ d. unsigned_abs d.n ≤ 10 ^ 36) }
@@ -51,8 +51,11 @@ fn units_of(parts: &NumeralParts<'_>) -> Option<u128>
     requires whole { AreDigits parts.now.whole.now }
     requires fraction { AreDigits parts.now.fraction.now }
     requires left { parts.now.left < 1000 }
-    ensures { MatchOption result ((u : ℕ) → IsUnits (digits_number (numeral parts.now)) parts.now.right (parts.now.left + length parts.now.fraction.now) u → IsInSet u → ⊥)
-        (λ u. IsUnits (digits_number (numeral parts.now)) parts.now.right (parts.now.left + length parts.now.fraction.now) u × IsInSet u) }
+    ensures { MatchOption result ((u : ℕ)
+        → IsUnits (digits_number (numeral parts.now)) parts.now.right (parts.now.left + length parts.now.fraction.now) u
+        → IsInSet u → ⊥)
+        (λ u. IsUnits (digits_number (numeral parts.now)) parts.now.right
+        (parts.now.left + length parts.now.fraction.now) u × IsInSet u) }
 {
     let digits = with_digits(with_digits(NO_DIGITS, parts.whole), parts.fraction);
     moved(
@@ -65,7 +68,9 @@ fn units_of(parts: &NumeralParts<'_>) -> Option<u128>
 /// The number with its point moved, in units of 10^-24, or None where it isn't in the set.
 fn moved(digits: DigitsRead, right: u32, left: u64) -> Option<u128>
     requires few { digits.significand < 10 ^ 18 }
-    ensures { (n : ℕ) → StandsFor digits n → MatchOption result ((u : ℕ) → IsUnits n right left u → IsInSet u → ⊥) (λ u. IsUnits n right left u × IsInSet u) }
+    ensures { (n : ℕ) → StandsFor digits n
+        → MatchOption result ((u : ℕ) → IsUnits n right left u → IsInSet u → ⊥)
+        (λ u. IsUnits n right left u × IsInSet u) }
 {
     if digits.long {
         return None;
@@ -88,7 +93,8 @@ fn moved(digits: DigitsRead, right: u32, left: u64) -> Option<u128>
 fn scaled(significand: u64, places: u32) -> Option<u128>
     requires few { significand < 10 ^ 18 }
     requires places { places ≤ 36 }
-    ensures { MatchOption result (10 ^ 36 < significand * 10 ^ places) (λ u. (u ≡ significand * 10 ^ places) × (u ≤ 10 ^ 36)) }
+    ensures { MatchOption result (10 ^ 36 < significand * 10 ^ places)
+        (λ u. (u ≡ significand * 10 ^ places) × (u ≤ 10 ^ 36)) }
 {
     let product = u128::from(significand).checked_mul(power_of_ten(places))?;
     (product <= 1_000_000_000_000_000_000_000_000_000_000_000_000).then_some(product)

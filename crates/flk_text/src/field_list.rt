@@ -7,7 +7,8 @@ use crate::fields::trimmed;
 use crate::scan::position_of;
 use std::marker::Model;
 
-/// The fields of a line that are left, from which they are taken one by one. Contracts see it as the list of these fields.
+/// The fields of a line that are left, from which they are taken one by one. Contracts see it as the list of these
+/// fields.
 #[derive(Drop)]
 pub struct Fields<'a> {
     left: Option<&'a [u8]>,

@@ -20,9 +20,11 @@ pub fn field_count(line: &[u8]) -> usize
     count + 1
 }
 
-/// The field at a place, counted from 1, without the spaces at both its ends. None exactly where there is no such field.
+/// The field at a place, counted from 1, without the spaces at both its ends. None exactly where there is no such
+/// field.
 pub fn field(line: &[u8], i: usize) -> Option<&[u8]>
-    ensures { MatchOption result ((i ≡ 0) ⊎ (length (fields line.now) < i)) (λ f. (0 < i) × (i ≤ length (fields line.now)) × (f.now ≡ get_or (fields line.now) (i - 1) [])) }
+    ensures { MatchOption result ((i ≡ 0) ⊎ (length (fields line.now) < i))
+        (λ f. (0 < i) × (i ≤ length (fields line.now)) × (f.now ≡ get_or (fields line.now) (i - 1) [])) }
 {
     if i == 0 {
         return None;
@@ -40,7 +42,8 @@ pub fn field(line: &[u8], i: usize) -> Option<&[u8]>
 /// What follows the first comma, or None where there is no comma.
 fn after_comma(rest: &[u8]) -> Option<&[u8]>
     ensures { MatchOption result (length rest.now ≤ position_or_len (is_byte 44) rest.now)
-        (λ a. (position_or_len (is_byte 44) rest.now < length rest.now) × (a.now ≡ drop (position_or_len (is_byte 44) rest.now + 1) rest.now)) }
+        (λ a. (position_or_len (is_byte 44) rest.now < length rest.now)
+        × (a.now ≡ drop (position_or_len (is_byte 44) rest.now + 1) rest.now)) }
 {
     let end = position_of(rest, b',');
     if end == rest.len() {

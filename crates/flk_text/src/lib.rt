@@ -1,11 +1,12 @@
 //! Lines, fields and numbers of COMTRADE text (IEC 60255-24, IEEE C37.111).
 //!
 //! A configuration file and an ASCII data file are lines of fields. [`Lines`] takes the lines of a file from the front,
-//! [`field`] and [`field_count`] cut a line, [`decimal`] and [`whole`] read a number, and [`push_decimal`] writes one. A number
-//! that the program prints is a [`Billionths`], and an interval of them [`Ends`]. For a file that comes in pieces there are
-//! [`position_of`], [`last_line_end`], [`without_cr`] and [`tail_marks`]. What a text may be, and which value it has, is defined
-//! in `specs/` as a relation between text and value; each reader answers the value, or says exactly why there is none. The
-//! functions with empty bodies carry the laws of these definitions as their contracts. Reading takes no memory.
+//! [`field`] and [`field_count`] cut a line, [`decimal`] and [`whole`] read a number, and [`push_decimal`] writes one.
+//! A number that the program prints is a [`Billionths`], and an interval of them [`Ends`]. For a file that comes in
+//! pieces there are [`position_of`], [`last_line_end`], [`without_cr`] and [`tail_marks`]. What a text may be, and
+//! which value it has, is defined in `specs/` as a relation between text and value; each reader answers the value, or
+//! says exactly why there is none. The functions with empty bodies carry the laws of these definitions as their
+//! contracts. Reading takes no memory.
 #![tactic(auto)]
 
 mod billionths;

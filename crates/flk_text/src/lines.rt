@@ -28,10 +28,11 @@ impl<'a> Lines<'a> {
         Lines { left: bytes }
     }
 
-    /// Takes the next line, which ends with LF or at the end of the file, without that LF and without one CR before that end.
-    /// None exactly where no byte is left.
+    /// Takes the next line, which ends with LF or at the end of the file, without that LF and without one CR before
+    /// that end. None exactly where no byte is left.
     pub fn next_line(&mut self) -> Option<&'a [u8]>
-        ensures line { MatchOption result (self.old ≡ []) (λ line. (0 < length self.old) × (line.now ≡ line_of self.old)) }
+        ensures line { MatchOption result (self.old ≡ [])
+            (λ line. (0 < length self.old) × (line.now ≡ line_of self.old)) }
         ensures left { self.new ≡ after_line self.old }
         ensures shorter { IfSome result (λ line. length self.new < length self.old) }
     {
@@ -43,11 +44,12 @@ impl<'a> Lines<'a> {
         Some(line)
     }
 
-    /// Takes the last line of a file, which ends with the first LF, before the first byte 1A, or at the end of the file,
-    /// whichever comes first, without that LF and without one CR before that end. What is left then is the tail
+    /// Takes the last line of a file, which ends with the first LF, before the first byte 1A, or at the end of the
+    /// file, whichever comes first, without that LF and without one CR before that end. What is left then is the tail
     /// (`is_tail` judges it). None exactly where no byte is left.
     pub fn last_line(&mut self) -> Option<&'a [u8]>
-        ensures line { MatchOption result (self.old ≡ []) (λ line. (0 < length self.old) × (line.now ≡ last_line_of self.old)) }
+        ensures line { MatchOption result (self.old ≡ [])
+            (λ line. (0 < length self.old) × (line.now ≡ last_line_of self.old)) }
         ensures left { self.new ≡ tail_of self.old }
     {
         if self.left.is_empty() {

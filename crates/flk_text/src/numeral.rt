@@ -102,8 +102,8 @@ fn exponent_digits(digits: &[u8]) -> u32
     number_up_to(digits, 1000) as u32
 }
 
-/// The places by which an exponent, which is all of the bytes, moves the point to the right and to the left, or None where
-/// the bytes are no exponent.
+/// The places by which an exponent, which is all of the bytes, moves the point to the right and to the left, or None
+/// where the bytes are no exponent.
 #[tactic(auto, unfolding(crate::specs::NumeralParts::exponent_of))]
 fn exponent(bytes: &[u8]) -> Option<(u32, u32)>
     ensures value { result ≡ exponent_of bytes.now }

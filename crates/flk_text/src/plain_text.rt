@@ -14,8 +14,9 @@ const LONGEST: usize = 41;
 /// Units of 10^-24 in 1.
 const UNITS: u128 = 1_000_000_000_000_000_000_000_000;
 
-/// Appends the plain text of a decimal: `-` where it is negative, the whole part without leading zeros (at least `0`), and,
-/// where a fraction remains, a point and the fraction without trailing zeros. Where memory is short `out` stays as it was.
+/// Appends the plain text of a decimal: `-` where it is negative, the whole part without leading zeros (at least `0`),
+/// and, where a fraction remains, a point and the fraction without trailing zeros. Where memory is short `out` stays as
+/// it was.
 pub fn push_decimal(out: &mut Vec<u8>, d: DecimalValue) -> Result<(), AllocError>
     ensures ok { OnOk result (out.new.items ≡ out.old.items ++ plain d.n) }
     ensures err { OnErr result (out.new.items ≡ out.old.items) }
@@ -46,7 +47,8 @@ fn push_size(out: &mut Vec<u8>, size: u128)
     push_fraction(out, size % UNITS);
 }
 
-/// Appends the digits of a whole number below 10^15, without leading zeros and at least `0`, to bytes that have room for 15 more.
+/// Appends the digits of a whole number below 10^15, without leading zeros and at least `0`, to bytes that have room
+/// for 15 more.
 pub fn push_whole(out: &mut Vec<u8>, whole: u64)
     requires small { whole < 10 ^ 15 }
     requires room { vec_len out.old + 15 ≤ vec_capacity out.old }

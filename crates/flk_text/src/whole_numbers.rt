@@ -7,8 +7,8 @@ ghost use Rattle.flk_text.specs.WholeNumber.{IsWholeAnswer};
 use crate::NumFault;
 use crate::numeral::{number_up_to, whole_parts};
 
-/// The value of a whole number's text, from -10^12 to 10^12. A whole number is a sign `+` or `-` or none, and one or more
-/// digits.
+/// The value of a whole number's text, from -10^12 to 10^12. A whole number is a sign `+` or `-` or none, and one or
+/// more digits.
 ///
 /// `Syntax` exactly where the text is of no such form, `Range` exactly where the value is above 10^12 in size.
 pub fn whole(text: &[u8]) -> Result<i64, NumFault>

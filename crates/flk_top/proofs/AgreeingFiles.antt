@@ -1,10 +1,12 @@
 -- Files that agree with what is told, and have given contents under given names.
-use Rattle.std.proofs.Common.{◌≡◌, ◌≢◌, ℕ, suc, Bool, true, false, List, [], ◌∷◌, map, Option, Some, None, refl, ◌∙◌, subst, arith, inl, inr}
-use Rattle.std.specs.Prelude.{Contains, if◌then◌else◌}
+use Rattle.std.proofs.Common.{◌≡◌, ◌≢◌, ℕ, suc, true, false, List, [], ◌∷◌, ◌++◌, append-nil, map, Option, Some, None, refl, sym, ◌∙◌, subst, arith, inl, inr}
+use Rattle.std.specs.Prelude.{Contains}
 use Rattle.std.specs.List.{AllZip}
 use Rattle.std.specs.Str.{bytes_eq}
-use Rattle.std.proofs.lemmas.Bool.{cases_Bool}
+use Rattle.std.proofs.lemmas.Bool.{cases_Bool, false_from_ne_true}
 use Rattle.std.proofs.lemmas.Slice.Eq.{bytes_eq-Decides}
+use Rattle.flk_io.proofs.Names.{equal_names}
+use Rattle.flk_io.specs.Causes.{TakesAll}
 use Rattle.flk_top.specs.Told.{Files, MayHold}
 
 -- ---- the bytes that are told, or none
@@ -16,6 +18,15 @@ told_or_none (Some held) = held
 pub may_be_told : (left : Option (List ℕ)) → MayHold left (told_or_none left)
 may_be_told None = λ held is. cc
 may_be_told (Some xs) = λ held is. cc
+
+-- all bytes that were left
+pub MayHold-all : (left now : Option (List ℕ)) (bytes : List ℕ) → TakesAll left now bytes → MayHold left bytes
+MayHold-all None now bytes took = λ held is. cc
+MayHold-all (Some xs) None bytes took = absurd took.0
+MayHold-all (Some xs) (Some ys) bytes took = λ held is.
+    let same : xs ≡ held = cc in
+    let all : xs ≡ bytes ++ [] = rw took.1 at took.0 in
+    sym (all ∙ append-nil bytes) ∙ same
 
 -- ---- names that differ
 
@@ -35,18 +46,11 @@ files_with left [] contents name = told_or_none (left name)
 files_with left (n ∷ names) [] name = told_or_none (left name)
 files_with left (n ∷ names) (bytes ∷ contents) name = if bytes_eq n name then bytes else files_with left names contents name
 
-same_name : (xs ys : List ℕ) → bytes_eq xs ys ≡ true → xs ≡ ys
-same_name xs ys e = (bytes_eq-Decides xs ys).0 e
-
 is_itself : (xs : List ℕ) → bytes_eq xs xs ≡ true
 is_itself xs = (bytes_eq-Decides xs xs).1 refl
 
-no_true : (b : Bool) → ¬ (b ≡ true) → b ≡ false
-no_true true h = absurd (h refl)
-no_true false h = refl
-
 is_other : (xs ys : List ℕ) → xs ≢ ys → bytes_eq xs ys ≡ false
-is_other xs ys differ = no_true (bytes_eq xs ys) (λ e. differ (same_name xs ys e))
+is_other xs ys differ = false_from_ne_true (bytes_eq xs ys) (λ e. differ (equal_names xs ys e))
 
 pub files_agree : (left : List ℕ → Option (List ℕ)) (names contents : List (List ℕ)) → AllZip MayHold (map left names) contents → (name : List ℕ)
     → MayHold (left name) (files_with left names contents name)
@@ -55,7 +59,7 @@ files_agree left (n ∷ names) [] all name = absurd all
 files_agree left (n ∷ names) (bytes ∷ contents) all name =
     let rest = files_agree left names contents all.1 name in
     elim (cases_Bool (bytes_eq n name)) [
-      | inl here ↦ rw here (subst (λ (x : List ℕ). MayHold (left x) bytes) (same_name n name here) all.0)
+      | inl here ↦ rw here (subst (λ (x : List ℕ). MayHold (left x) bytes) (equal_names n name here) all.0)
       | inr other ↦ rw other rest
     ]
 

@@ -4,6 +4,7 @@ use Rattle.std.proofs.lemmas.Bool.{cases_lt}
 use Rattle.flk_num.specs.Rate.{half_at}
 use Rattle.flk_num.specs.declared.lamp.Lamp.{Lamp}
 use Rattle.flk_num.specs.declared.rate.Rate.{Rate}
+use Rattle.flk_num.proofs.RateLemmas.{half_some}
 use Rattle.flk_cfg.specs.Kinds.{kind_number}
 use Rattle.flk_cfg.specs.declared.config.Analog.{Analog}
 use Rattle.flk_cfg.specs.declared.config.Config.{Config}
@@ -18,7 +19,7 @@ use Rattle.flk_top.specs.Command.{Asks, inputs_of, configuration_name, data_name
 use Rattle.flk_top.specs.Configuration.{configuration_limit, IsConfiguration, IsConfigurationFault, too_long, first_fault}
 use Rattle.flk_top.specs.Faults.{usage_line, match_line, data_line, range_line, configuration_line, lamp_line}
 use Rattle.flk_top.specs.LevelsDue.{IsDueForRecording, data_fault, over_range, measured, IsDueForLevels, no_configuration, no_match, matched}
-use Rattle.flk_top.specs.Matching.{Matches, IsMatchFault, recorded_voltages}
+use Rattle.flk_top.specs.Matching.{Matches, IsChannelMatchFault, recorded_voltages}
 use Rattle.flk_top.specs.Outcome.{Outcome, completed, refusal}
 use Rattle.flk_top.specs.Tables.{tables_text, IsDueForTables, certified, refused}
 use Rattle.flk_top.specs.Text.{levels_text, check_text}
@@ -29,17 +30,14 @@ use Rattle.flk_top.specs.declared.command.LevelsCommand.{LevelsCommand}
 use Rattle.flk_scale.specs.declared.fault.MatchFault.{MatchFault}
 use Rattle.flk_scale.specs.declared.fault.MatchFault.TheVariants as faults
 use Rattle.flk_top.proofs.LampLemmas.{certified_cases}
-use Rattle.flk_top.proofs.MeasureLemmas.{half_some}
 use Rattle.flk_scale.proofs.MatchingLemmas.{channel_cases, lamp_cases}
 use Rattle.flk_scale.proofs.RangeLemmas.{over_cases}
 use Rattle.flk_top.proofs.LevelsExist.{levels_exist}
 use Rattle.flk_top.proofs.ReportExists.{report_due}
 use Rattle.flk_top.proofs.WordCases.{asked_for}
+use Rattle.flk_top.proofs.Outcomes.{HasOutcome}
 
 -- ---- tables
-
-abbrev HasOutcome : (Outcome → Type 0) → Type 0
-HasOutcome due = (o : Outcome) × due o
 
 tables_due : (lamp : Lamp) (rate : Rate) → HasOutcome (IsDueForTables lamp rate)
 tables_due lamp rate =
@@ -62,7 +60,7 @@ configuration_cases bytes =
 
 -- ---- the channel
 
-match_cases : (c : Config) (channel : ℕ) → 1 ≤ channel → ((a : Analog) × (lamp : Lamp) × Matches c channel a lamp) ⊎ ((fault : MatchFault) × IsMatchFault c channel fault)
+match_cases : (c : Config) (channel : ℕ) → 1 ≤ channel → ((a : Analog) × (lamp : Lamp) × Matches c channel a lamp) ⊎ ((fault : MatchFault) × IsChannelMatchFault c channel fault)
 match_cases c channel from =
     elim (channel_cases c channel from) [
       | inr fails ↦ inr (fails.0, inl fails.1)

@@ -18,6 +18,7 @@ use Rattle.flk_top.specs.Blocks.{HasRead, Gives, Begins, EndsAs, block_of, recor
 use Rattle.flk_top.specs.declared.blocks.Blocks.{Blocks}
 use Rattle.flk_top.specs.declared.blocks.Progress.{Progress}
 use Rattle.flk_top.specs.declared.blocks.Progress.TheVariants.{Full, Ended, Fault}
+use Rattle.flk_top.proofs.AgreeingFiles.{MayHold-all}
 
 -- ---- what may be held
 
@@ -39,15 +40,6 @@ MayHold-taken (Some xs) None bytes more took h = absurd took
 MayHold-taken (Some xs) (Some ys) bytes more took h = λ held is.
     let same : xs ≡ held = cc in
     ap (λ zs. bytes ++ zs) (h ys refl) ∙ sym took ∙ same
-
--- all bytes that were left
-pub MayHold-all : (left now : Option (List ℕ)) (bytes : List ℕ) → TakesAll left now bytes → MayHold left bytes
-MayHold-all None now bytes took = λ held is. cc
-MayHold-all (Some xs) None bytes took = absurd took.0
-MayHold-all (Some xs) (Some ys) bytes took = λ held is.
-    let same : xs ≡ held = cc in
-    let all : xs ≡ bytes ++ [] = rw took.1 at took.0 in
-    sym (all ∙ append-nil bytes) ∙ same
 
 -- ---- the bytes not yet fed
 

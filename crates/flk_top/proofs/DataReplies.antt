@@ -17,7 +17,7 @@ use Rattle.flk_top.specs.CheckDue.{IsDueForSummary, file_fault, checked}
 use Rattle.flk_top.specs.Checking.{IsFirstNumber}
 use Rattle.flk_top.specs.Faults.{data_line, range_line}
 use Rattle.flk_scale.specs.Range.{IsFirstOver, IsWithinRange}
-use Rattle.flk_top.specs.Levels.{AreLevels}
+use Rattle.flk_top.specs.Levels.{AreHalfPeriodLevels}
 use Rattle.flk_top.specs.LevelsDue.{IsDueForRecording, data_fault, over_range, measured}
 use Rattle.flk_top.specs.Matching.{recorded_voltages}
 use Rattle.flk_top.specs.Measuring.{half_of, told_voltage, HasMeasured, IsSameMeasurement, IsMatched}
@@ -71,14 +71,14 @@ over_recorded m c command a matched rs i h made first =
     (subst (λ (vs : List Fraction). IsFirstOver (nominal_of m.matched.scale) vs i) (told_recorded m c command a matched h made rs) first)
 
 levels_recorded : (m : Measure) (c : Config) (command : LevelsCommand) (a : Analog) (matched : Matched) (rs : List DataRecord) (found : Levels) → IsMatched c command a matched → IsMadeFor m matched command.channel
-    → AreLevels (half_of m.matched) (nominal_of m.matched.scale) (uncertainty_of m.matched.scale) (map (told_voltage m) rs) found
-    → AreLevels (half_at matched.lamp c.rate) command.supply.nominal_mv command.supply.uncertainty_uv (recorded_voltages a command.channel rs) found
+    → AreHalfPeriodLevels (half_of m.matched) (nominal_of m.matched.scale) (uncertainty_of m.matched.scale) (map (told_voltage m) rs) found
+    → AreHalfPeriodLevels (half_at matched.lamp c.rate) command.supply.nominal_mv command.supply.uncertainty_uv (recorded_voltages a command.channel rs) found
 levels_recorded m c command a matched rs found h made are =
     let half : half_of m.matched ≡ half_at matched.lamp c.rate = ap half_of made.matched_is ∙ ap (half_at matched.lamp) h.rate in
-    subst (λ (n : ℕ). AreLevels n command.supply.nominal_mv command.supply.uncertainty_uv (recorded_voltages a command.channel rs) found) half
-    (subst (λ (n : ℕ). AreLevels (half_of m.matched) n command.supply.uncertainty_uv (recorded_voltages a command.channel rs) found) (nominal_is m c command a matched h made)
-    (subst (λ (n : ℕ). AreLevels (half_of m.matched) (nominal_of m.matched.scale) n (recorded_voltages a command.channel rs) found) (uncertainty_is m c command a matched h made)
-    (subst (λ (vs : List Fraction). AreLevels (half_of m.matched) (nominal_of m.matched.scale) (uncertainty_of m.matched.scale) vs found) (told_recorded m c command a matched h made rs) are)))
+    subst (λ (n : ℕ). AreHalfPeriodLevels n command.supply.nominal_mv command.supply.uncertainty_uv (recorded_voltages a command.channel rs) found) half
+    (subst (λ (n : ℕ). AreHalfPeriodLevels (half_of m.matched) n command.supply.uncertainty_uv (recorded_voltages a command.channel rs) found) (nominal_is m c command a matched h made)
+    (subst (λ (n : ℕ). AreHalfPeriodLevels (half_of m.matched) (nominal_of m.matched.scale) n (recorded_voltages a command.channel rs) found) (uncertainty_is m c command a matched h made)
+    (subst (λ (vs : List Fraction). AreHalfPeriodLevels (half_of m.matched) (nominal_of m.matched.scale) (uncertainty_of m.matched.scale) vs found) (told_recorded m c command a matched h made rs) are)))
 
 pub data_line_is : (p q field a b : ℕ) → p ≡ q → a ≡ b → data_line p field a ≡ data_line q field b
 data_line_is p q field a b h k = rw (h, k) refl
@@ -131,7 +131,7 @@ range_told command c matched m left i rs more (Err e) made stands over begins re
 
 pub levels_told : {E : Type 0} (command : LevelsCommand) (c : Config) (matched : Matched) (m : Measure) (left : Option (List ℕ)) (found : Levels) (rs : List DataRecord) (r : Result Reply E) → IsMadeFor m matched command.channel
     → MeasureStands m rs
-    → ((recorded : List Fraction) → HasMeasured m recorded → AreLevels (half_of m.matched) (nominal_of m.matched.scale) (uncertainty_of m.matched.scale) recorded found)
+    → ((recorded : List Fraction) → HasMeasured m recorded → AreHalfPeriodLevels (half_of m.matched) (nominal_of m.matched.scale) (uncertainty_of m.matched.scale) recorded found)
     → (bytes : List ℕ) × MayHold left bytes × IsAccepted (layout_of c (command.channel ∷ [])) bytes rs
     → IfOk r (λ x. (x.status ≡ Done) × (string_bytes x.text ≡ levels_text command.channel found)) → IfOk r (IsRecordingReply command c matched left)
 levels_told command c matched m left found rs (Ok x) made stands are accepted reply = λ fine. (

@@ -20,10 +20,10 @@ use Rattle.flk_dat.proofs.FileLaws.{each_once, file_once, accepted_or_fault_afte
 use Rattle.flk_scale.proofs.MatchingLemmas.{one_channel, measured_has_no_fault, one_lamp}
 use Rattle.flk_top.specs.Command.{inputs_of, configuration_name, data_name}
 use Rattle.flk_top.specs.Configuration.{IsConfiguration, IsConfigurationFault, too_long, first_fault}
-use Rattle.flk_top.specs.Matching.{Matches, IsMatchFault, sample_of, recorded_voltages}
+use Rattle.flk_top.specs.Matching.{Matches, IsChannelMatchFault, sample_of, recorded_voltages}
 use Rattle.flk_scale.specs.Range.{voltage_at, IsFirstOver, IsWithinRange}
 use Rattle.flk_top.specs.Faults.{data_line}
-use Rattle.flk_top.specs.Levels.{AreLevels}
+use Rattle.flk_top.specs.Levels.{AreHalfPeriodLevels}
 use Rattle.flk_top.specs.LevelsDue.{IsDueForRecording, data_fault, over_range, measured, IsDueForLevels, no_configuration, no_match, matched}
 use Rattle.flk_top.specs.Outcome.{Outcome, completed}
 use Rattle.flk_top.specs.Text.{levels_text}
@@ -54,7 +54,7 @@ one_configuration_fault bytes xs ys (first_fault l f k small fault text) (first_
     text ∙ rw (same.0, same.1, same.2) refl ∙ sym line
 
 -- a channel that can be measured fails no test
-pub match_or_fault : (c : Config) (channel : ℕ) (a : Analog) (lamp : Lamp) (fault : MatchFault) → Matches c channel a lamp → IsMatchFault c channel fault → ⊥
+pub match_or_fault : (c : Config) (channel : ℕ) (a : Analog) (lamp : Lamp) (fault : MatchFault) → Matches c channel a lamp → IsChannelMatchFault c channel fault → ⊥
 match_or_fault c channel a lamp fault h (inl fails) = measured_has_no_fault c channel fault (a, h.there, h.scale) fails
 match_or_fault c channel a lamp fault h (inr fails) = fails.1.1 lamp h.frequency
 
@@ -143,7 +143,7 @@ recording_moved channel nominal uncertainty x y a b m n bytes o e f g h =
 
 -- a channel that is measured has no fault of the tests
 pub measured_or_fault : (bytes : List ℕ) (channel : ℕ) (x y : Config) (a : Analog) (m : Lamp) (fault : MatchFault)
-    → IsConfiguration bytes x → IsConfiguration bytes y → Matches x channel a m → IsMatchFault y channel fault → ⊥
+    → IsConfiguration bytes x → IsConfiguration bytes y → Matches x channel a m → IsChannelMatchFault y channel fault → ⊥
 measured_or_fault bytes channel x y a m fault is that matches failed =
     match_or_fault y channel a m fault (subst (λ i. Matches i channel a m) (one_configuration bytes x y is that) matches) failed
 
@@ -172,7 +172,7 @@ recording_told m bytes o is within (measured ss found that fine are done) =
     let told = done_is o (levels_text m.command.channel found) done in
     record {
       levels = found;
-      are_levels = subst (λ xs. AreLevels (half_at m.lamp m.configuration.rate) m.command.supply.nominal_mv m.command.supply.uncertainty_uv (recorded_voltages m.analog m.command.channel xs) found) same are;
+      are_levels = subst (λ xs. AreHalfPeriodLevels (half_at m.lamp m.configuration.rate) m.command.supply.nominal_mv m.command.supply.uncertainty_uv (recorded_voltages m.analog m.command.channel xs) found) same are;
       status_is = told.0;
       text_is = told.1;
     }

@@ -14,7 +14,8 @@ use Rattle.flk_top.specs.Told.{MayHold}
 use Rattle.flk_top.specs.declared.reply.Reply.{Reply}
 use Rattle.flk_top.specs.declared.reply.Status.TheVariants.{Refused}
 use Rattle.flk_top.proofs.Outcomes.{is_refusal}
-use Rattle.flk_top.proofs.Replies.{all_may_be, too_long_may_be}
+use Rattle.flk_top.proofs.Replies.{too_long_may_be}
+use Rattle.flk_top.proofs.AgreeingFiles.{MayHold-all}
 
 -- the reply is a refusal of bytes that may stand there
 abbrev pub IsRefusedJob : Option (List ℕ) → Reply → Type 0
@@ -31,4 +32,4 @@ pub fault_of_job : (left after : Option (List ℕ)) (bytes : List ℕ) (fault : 
     → IsJobAnswer bytes (Err (Fault fault)) → (r.status ≡ Refused) × (string_bytes r.text ≡ job_line fault.key fault.kind) → IsRefusedJob left r
 fault_of_job left after bytes fault r took is told =
     let line : string_bytes r.text ≡ job_line fault.key (kind_number is.0) = told.1 ∙ ap (λ k. job_line fault.key k) is.1 in
-    (bytes, string_bytes r.text, all_may_be left after bytes took, (fault.key, is.0, is.2, line), is_refusal r (string_bytes r.text) told.0 refl)
+    (bytes, string_bytes r.text, MayHold-all left after bytes took, (fault.key, is.0, is.2, line), is_refusal r (string_bytes r.text) told.0 refl)

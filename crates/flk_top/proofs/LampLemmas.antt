@@ -23,7 +23,7 @@ use Rattle.flk_design.proofs.DesignLemmas.{design_unique}
 use Rattle.flk_section.specs.Points.{greatest_point}
 use Rattle.flk_section.specs.Radius.{radius_by, radius_after, radii, FirstStartsAtRest}
 use Rattle.flk_section.specs.Chain.{HasChainBound}
-use Rattle.flk_top.specs.Certified.{IsAccepted, IsRefused, IsFirstRefused, gains_in, IsBounded, IsCertifiedLamp, FailsAt, IsRefusedLamp}
+use Rattle.flk_top.specs.Certified.{IsCertifiedSection, IsRefused, IsFirstRefused, gains_in, IsBounded, IsCertifiedLamp, FailsAt, IsRefusedLamp}
 use Rattle.flk_top.specs.declared.certified.CertifiedSection.{CertifiedSection}
 use Rattle.flk_top.specs.declared.certified.LampFault.{LampFault}
 use Rattle.flk_top.specs.declared.certified.LampFault.TheVariants.{Section, Cascade}
@@ -32,7 +32,7 @@ use Rattle.flk_top.proofs.BoundCases.{bounded_cases}
 -- ---- one section
 
 -- a section whose certificate is accepted is not refused: one certificate is made for it
-not_refused : (k : Coefs) (s : CertifiedSection) → IsAccepted k s → ¬ IsRefused k
+not_refused : (k : Coefs) (s : CertifiedSection) → IsCertifiedSection k s → ¬ IsRefused k
 not_refused k s h other =
     let P : List CertRow → Type 0 = λ rows. FitsSection k rows in
     other.fails (subst P (IsMade-unique k h.certificate.rows other.rows h.certificate.made other.made) h.fits)
@@ -42,7 +42,7 @@ pub record AreAlike (s t : CertifiedSection) : Type 0 where
   pub numbers : gain_numbers s.gain ≡ gain_numbers t.gain
   pub rows : s.rows ≡ t.rows
 
-accepted_alike : (k : Coefs) (s t : CertifiedSection) → IsAccepted k s → IsAccepted k t → AreAlike s t
+accepted_alike : (k : Coefs) (s t : CertifiedSection) → IsCertifiedSection k s → IsCertifiedSection k t → AreAlike s t
 accepted_alike k s t h j =
     let a = h.certificate in
     let b = j.certificate in
@@ -54,8 +54,8 @@ accepted_alike k s t h j =
 
 -- ---- the sections of a lamp
 
-all_alike : (ks : List Coefs) (ss ts : List CertifiedSection) → AllZip IsAccepted ks ss → AllZip IsAccepted ks ts → AllZip AreAlike ss ts
-all_alike ks ss ts h j = AllZip-joined IsAccepted IsAccepted AreAlike accepted_alike ks ss ts h j
+all_alike : (ks : List Coefs) (ss ts : List CertifiedSection) → AllZip IsCertifiedSection ks ss → AllZip IsCertifiedSection ks ts → AllZip AreAlike ss ts
+all_alike ks ss ts h j = AllZip-joined IsCertifiedSection IsCertifiedSection AreAlike accepted_alike ks ss ts h j
 
 pub numbers_alike : (ss ts : List CertifiedSection) → AllZip AreAlike ss ts → map gain_numbers (gains_in ss) ≡ map gain_numbers (gains_in ts)
 numbers_alike [] [] h = refl
@@ -102,16 +102,16 @@ bounded_alike ss ts h b = record {
 
 -- the sections that are accepted, one after the other
 pub accepted_more : (ks : List Coefs) (i : ℕ) (k : Coefs) (ss : List CertifiedSection) (s : CertifiedSection) (new : List CertifiedSection)
-    → i < length ks → k ≡ get_or ks i k → AllZip IsAccepted (take i ks) ss → IsAccepted k s → new ≡ ss ++ s ∷ [] → AllZip IsAccepted (take (i + 1) ks) new
+    → i < length ks → k ≡ get_or ks i k → AllZip IsCertifiedSection (take i ks) ss → IsCertifiedSection k s → new ≡ ss ++ s ∷ [] → AllZip IsCertifiedSection (take (i + 1) ks) new
 accepted_more ks i k ss s new there is all one pushed =
     let step : take (i + 1) ks ≡ take i ks ++ k ∷ [] = take_more ks i k there ∙ ap (λ (x : Coefs). take i ks ++ x ∷ []) (sym is) in
-    rw (step, pushed) (AllZip-push IsAccepted (take i ks) ss k s all one)
+    rw (step, pushed) (AllZip-push IsCertifiedSection (take i ks) ss k s all one)
 
 -- ---- one reason
 
 -- where those before it are accepted, a section that is refused is the first
 pub first_refused : (ks : List Coefs) (i : ℕ) (k : Coefs) (ss : List CertifiedSection) → i < length ks → k ≡ get_or ks i k
-    → AllZip IsAccepted (take i ks) ss → IsRefused k → IsFirstRefused ks i
+    → AllZip IsCertifiedSection (take i ks) ss → IsRefused k → IsFirstRefused ks i
 first_refused [] i k ss there is h fails = absurd (omega (arith, there))
 first_refused (j ∷ ks) zero k ss there is h fails = subst (λ (x : Coefs). IsRefused x) is fails
 first_refused (j ∷ ks) (suc i) k [] there is h fails = absurd h
@@ -124,7 +124,7 @@ refused_unique (k ∷ ks) zero (suc j) h g = absurd (g.0 h)
 refused_unique (k ∷ ks) (suc i) zero h g = absurd (h.0 g)
 refused_unique (k ∷ ks) (suc i) (suc j) h g = ap suc (refused_unique ks i j h.1 g.1)
 
-never_refused : (ks : List Coefs) (ss : List CertifiedSection) (i : ℕ) → AllZip IsAccepted ks ss → IsFirstRefused ks i → ⊥
+never_refused : (ks : List Coefs) (ss : List CertifiedSection) (i : ℕ) → AllZip IsCertifiedSection ks ss → IsFirstRefused ks i → ⊥
 never_refused [] ss i h g = g
 never_refused (k ∷ ks) [] i h g = absurd h
 never_refused (k ∷ ks) (s ∷ ss) zero h g = not_refused k s h.0 g
@@ -137,7 +137,7 @@ one_reason ks Cascade (Section n) h j = absurd (never_refused ks h.0 j.0 h.1 j.2
 one_reason ks Cascade Cascade h j = refl
 
 -- sections that are accepted and bounded have none
-no_reason : (ks : List Coefs) (ss : List CertifiedSection) (f : LampFault) → AllZip IsAccepted ks ss → IsBounded (gains_in ss) → FailsAt ks f → ⊥
+no_reason : (ks : List Coefs) (ss : List CertifiedSection) (f : LampFault) → AllZip IsCertifiedSection ks ss → IsBounded (gains_in ss) → FailsAt ks f → ⊥
 no_reason ks ss (Section n) h bounded g = never_refused ks ss g.0 h g.2
 no_reason ks ss Cascade h bounded g = g.2 (bounded_alike ss g.0 (all_alike ks ss g.0 h g.1) bounded)
 
@@ -146,7 +146,7 @@ no_reason ks ss Cascade h bounded g = g.2 (bounded_alike ss g.0 (all_alike ks ss
 pub lamp_alike : (lamp : Lamp) (rate : Rate) (ss ts : List CertifiedSection) → IsCertifiedLamp lamp rate ss → IsCertifiedLamp lamp rate ts → AllZip AreAlike ss ts
 lamp_alike lamp rate ss ts h j =
     let same = design_unique (sampling_interval rate) (constants_of lamp) h.sections j.sections h.design j.design in
-    all_alike j.sections ss ts (subst (λ (ks : List Coefs). AllZip IsAccepted ks ss) same h.accepted) j.accepted
+    all_alike j.sections ss ts (subst (λ (ks : List Coefs). AllZip IsCertifiedSection ks ss) same h.accepted) j.accepted
 
 pub lamp_has_one_reason : (lamp : Lamp) (rate : Rate) (f g : LampFault) → IsRefusedLamp lamp rate f → IsRefusedLamp lamp rate g → f ≡ g
 lamp_has_one_reason lamp rate f g h j =
@@ -160,7 +160,7 @@ certified_is_not_refused lamp rate ss f h j =
 
 -- ---- some answer
 
-section_cases : (k : Coefs) → ((s : CertifiedSection) × IsAccepted k s) ⊎ IsRefused k
+section_cases : (k : Coefs) → ((s : CertifiedSection) × IsCertifiedSection k s) ⊎ IsRefused k
 section_cases k =
     let made = made_exists k in
     elim (fit_cases k made.0) [
@@ -173,7 +173,7 @@ section_cases k =
           )
     ]
 
-sections_cases : (ks : List Coefs) → ((ss : List CertifiedSection) × AllZip IsAccepted ks ss) ⊎ ((i : ℕ) × IsFirstRefused ks i)
+sections_cases : (ks : List Coefs) → ((ss : List CertifiedSection) × AllZip IsCertifiedSection ks ss) ⊎ ((i : ℕ) × IsFirstRefused ks i)
 sections_cases [] = inl ([], tt)
 sections_cases (k ∷ ks) =
     elim (section_cases k) [

@@ -1,49 +1,28 @@
 -- Recorded voltages have levels.
-use Rattle.std.proofs.Common.{ℕ, ◌*◌, ◌^◌, ◌<◌, List, [], ◌∷◌, length, map, pos, ◌+ℤ◌, ◌-ℤ◌, ◌*ℤ◌, ◌≤ℤ◌, Option, Some, None, refl, arith}
-use Rattle.std.specs.List.{AllZip}
-use Rattle.std.proofs.Math.Nat.{mul-pos}
-use Rattle.std.proofs.lemmas.Int.{ints}
+use Rattle.std.proofs.Common.{ℕ, ◌<◌, List, [], ◌∷◌, length, map, Option, Some, None, refl, arith}
 use Rattle.flk_exact.specs.Fraction.{Fraction}
-use Rattle.flk_exact.specs.Rounding.{IsFloor, IsCeil, floor_of, ceil_of}
 use Rattle.flk_exact.proofs.ListLemmas.{AllZip-exists}
 use Rattle.flk_exact.proofs.CutLemmas.{cuts_exist}
 use Rattle.flk_exact.proofs.ExtremeLemmas.{least_exists, greatest_exists, least_≤, greatest_≤}
-use Rattle.flk_exact.proofs.RoundingLemmas.{IsFloor-floor_of, IsCeil-at}
 use Rattle.flk_num.specs.declared.interval.Interval.{Interval}
 use Rattle.flk_num.specs.Interval.{lows, highs}
+use Rattle.flk_num.proofs.IntervalLemmas.{ends_ordered}
 use Rattle.flk_scale.specs.Voltage.{is_below_zero, IsVoltageInterval}
-use Rattle.flk_scale.proofs.ScaleLemmas.{ends_order}
+use Rattle.flk_scale.proofs.VoltageLemmas.{voltage_exists}
 use Rattle.flk_half.proofs.IntervalsLemmas.{intervals_exist}
-use Rattle.flk_top.specs.Levels.{AreExtremeIntervalsIfAny, AreLevels}
+use Rattle.flk_top.specs.Levels.{AreExtremeIntervalsIfAny, AreHalfPeriodLevels}
 use Rattle.flk_top.specs.declared.measure.Levels.{Levels}
 use Rattle.flk_top.specs.declared.measure.Extremes.{Extremes}
 use Rattle.flk_top.proofs.LevelsLemmas.{are_extremes_if_any}
 
--- ---- the interval of a voltage
-
-voltage_exists : (nominal uncertainty : ℕ) → 0 < nominal → (recorded : Fraction) → (v : Interval) × IsVoltageInterval nominal uncertainty recorded v
-voltage_exists nominal uncertainty some recorded =
-    let m = 1000 * nominal * recorded.den in
-    let high : 0 < 1000 * nominal * recorded.den = mul-pos (mul-pos (omega arith) some) recorded.positive in
-    let low = (recorded.num -ℤ pos (uncertainty * recorded.den)) *ℤ pos (2 ^ 48) in
-    let top = (recorded.num +ℤ pos (uncertainty * recorded.den)) *ℤ pos (2 ^ 48) in
-    let down : IsFloor low (pos m) (floor_of low (pos m)) = IsFloor-floor_of low m high in
-    let up : IsCeil top (pos m) (ceil_of top (pos m)) = IsCeil-at top (pos m) (ceil_of top (pos m)) (omega (arith, ints, high)) refl in
-    let v : Interval = record { lo = floor_of low (pos m); hi = ceil_of top (pos m); ordered = ends_order recorded.num (floor_of low (pos m)) (ceil_of top (pos m)) (uncertainty * recorded.den) m high down up } in
-    (v, record { down = down; up = up })
-
 -- ---- extremes
-
-ends_≤ : (intervals : List Interval) → AllZip ◌≤ℤ◌ (lows intervals) (highs intervals)
-ends_≤ [] = tt
-ends_≤ (h ∷ hs) = (h.ordered, ends_≤ hs)
 
 extremes_exist : (intervals : List Interval) → (e : Option Extremes) × AreExtremeIntervalsIfAny intervals e
 extremes_exist [] = (None, refl)
 extremes_exist (h ∷ hs) =
     let low = lows (h ∷ hs) in
     let high = highs (h ∷ hs) in
-    let order = ends_≤ (h ∷ hs) in
+    let order = ends_ordered (h ∷ hs) in
     let least_low = least_exists low (omega arith) in
     let least_high = least_exists high (omega arith) in
     let greatest_low = greatest_exists low (omega arith) in
@@ -55,7 +34,7 @@ extremes_exist (h ∷ hs) =
 
 -- ---- the levels
 
-pub levels_exist : (half nominal uncertainty : ℕ) (recorded : List Fraction) → 0 < half → 0 < nominal → (levels : Levels) × AreLevels half nominal uncertainty recorded levels
+pub levels_exist : (half nominal uncertainty : ℕ) (recorded : List Fraction) → 0 < half → 0 < nominal → (levels : Levels) × AreHalfPeriodLevels half nominal uncertainty recorded levels
 levels_exist half nominal uncertainty recorded some high =
     let cuts = cuts_exist half (map is_below_zero recorded) in
     let voltages = AllZip-exists (IsVoltageInterval nominal uncertainty) (voltage_exists nominal uncertainty high) recorded in

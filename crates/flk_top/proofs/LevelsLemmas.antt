@@ -1,40 +1,34 @@
 -- From the intervals of recorded voltages to the extremes of every run.
-use Rattle.std.proofs.Common.{ℕ, ◌*◌, ◌^◌, ◌<◌, Bool, List, [], ◌∷◌, length, map, get_or, ℤ, pos, ◌+ℤ◌, ◌-ℤ◌, ◌*ℤ◌, ◌≤ℤ◌, Option, Some, None, arith}
-use Rattle.std.specs.Prelude.{negsuc}
+use Rattle.std.proofs.Common.{ℕ, ◌*◌, ◌<◌, Bool, List, [], ◌∷◌, length, map, get_or, ℤ, pos, ◌-ℤ◌, ◌≤ℤ◌, Option, Some, None, arith}
 use Rattle.std.specs.List.{All, AllZip, Contains}
 use Rattle.std.proofs.lemmas.Int.{ints}
 use Rattle.std.proofs.lemmas.List.{get_or-map, length-map}
 use Rattle.std.proofs.lemmas.List.Elements.{All-nil, All-cons}
 use Rattle.flk_exact.specs.Fraction.{Fraction, ◌≤ℚ◌, whole}
-use Rattle.flk_exact.specs.Run.{IsAdmitted, IsAdmittedRun, CoversDoubt}
+use Rattle.flk_exact.specs.Run.{CoversDoubt}
 use Rattle.flk_exact.specs.Cut.{AreCuts, half_periods}
 use Rattle.flk_exact.specs.HalfPeriod.{half_period_width}
 use Rattle.flk_exact.specs.Extreme.{IsLeast, IsGreatest}
-use Rattle.flk_exact.proofs.WholeLemmas.{atom, nat, plus_is, times_is, from_at_most, scale_≤}
+use Rattle.flk_exact.proofs.WholeLemmas.{scale_≤}
 use Rattle.flk_exact.proofs.FractionLemmas.{≤ℚ-trans}
-use Rattle.flk_exact.proofs.ListLemmas.{AllZip-length, AllZip-joined}
+use Rattle.flk_exact.proofs.ListLemmas.{AllZip-length}
 use Rattle.flk_exact.proofs.CutLemmas.{length-half_periods}
 use Rattle.flk_exact.proofs.ExtremeLemmas.{least_≤, greatest_≤}
+use Rattle.flk_exact.proofs.RunLemmas.{CoversDoubt-natural}
 use Rattle.flk_num.specs.declared.interval.Interval.{Interval}
-use Rattle.flk_num.specs.Interval.{lows, highs, Holds, HoldEach, IsNarrow}
+use Rattle.flk_num.specs.Interval.{lows, highs, IsNarrow}
 use Rattle.flk_num.specs.Values.{HoldValues}
 use Rattle.flk_num.specs.Square.{least_squares}
 use Rattle.flk_scale.specs.Voltage.{IsVoltageInterval, is_below_zero}
 use Rattle.flk_half.specs.Cutter.{IsHalfPeriodInterval}
 use Rattle.flk_half.specs.Intervals.{AreHalfPeriodIntervals, IsNarrowHalfPeriod}
-use Rattle.flk_top.specs.Levels.{HoldsEveryRun, KeepsWidth, IsExtremeInterval, AreExtremeIntervals, AreExtremeIntervalsIfAny, AreExtremes, AreExtremesIfAny}
+use Rattle.flk_top.specs.Levels.{HoldsEveryExtreme, KeepsWidth, IsExtremeInterval, AreExtremeIntervals, AreExtremeIntervalsIfAny, AreExtremes, AreExtremesIfAny}
 use Rattle.flk_top.specs.declared.measure.Extremes.{Extremes}
-use Rattle.flk_scale.proofs.VoltageLemmas.{voltage_holds, voltage_narrow}
+use Rattle.flk_scale.proofs.VoltageLemmas.{voltage_narrow, voltages_hold}
 use Rattle.flk_half.proofs.EnclosureLemmas.{IsValueAt-natural}
 use Rattle.flk_half.proofs.IntervalsLemmas.{intervals_hold, intervals_narrow}
 
 -- ---- every run
-
-run_held : (nominal uncertainty : ℕ) (recorded : List Fraction) (voltages : List Interval) (run : List Fraction) → 0 < nominal → AllZip (IsVoltageInterval nominal uncertainty) recorded voltages
-    → IsAdmittedRun (1000 * nominal) uncertainty recorded run → HoldEach voltages run
-run_held nominal uncertainty recorded voltages run some are admitted =
-    AllZip-joined (IsVoltageInterval nominal uncertainty) (IsAdmitted (1000 * nominal) uncertainty) Holds
-    (λ r v u is near. voltage_holds nominal uncertainty r v u some is near) recorded voltages run are admitted
 
 lows_≤ : (intervals : List Interval) (values : List ℤ) → HoldValues intervals values → AllZip ◌≤ℤ◌ (lows intervals) values
 lows_≤ [] [] h = tt
@@ -49,18 +43,18 @@ highs_≤ (v ∷ vs) [] h = absurd h
 highs_≤ (v ∷ vs) (w ∷ ws) h = (h.0.below, highs_≤ vs ws h.1)
 
 pub least_holds : (half nominal uncertainty : ℕ) (recorded : List Fraction) (voltages : List Interval) (cuts : List ℕ) (intervals : List Interval) (v : Interval) → 0 < nominal → AllZip (IsVoltageInterval nominal uncertainty) recorded voltages
-    → AreHalfPeriodIntervals half cuts voltages intervals → IsExtremeInterval IsLeast intervals v → HoldsEveryRun IsLeast half nominal uncertainty recorded cuts v
+    → AreHalfPeriodIntervals half cuts voltages intervals → IsExtremeInterval IsLeast intervals v → HoldsEveryExtreme IsLeast half nominal uncertainty recorded cuts v
 least_holds half nominal uncertainty recorded voltages cuts intervals v some are_voltages are_intervals is run values m admitted those least =
-    let held = intervals_hold half cuts voltages run intervals values (run_held nominal uncertainty recorded voltages run some are_voltages admitted) are_intervals those in
+    let held = intervals_hold half cuts voltages run intervals values (voltages_hold nominal uncertainty recorded voltages run some are_voltages admitted) are_intervals those in
     record {
       above = least_≤ (lows intervals) values v.lo m (lows_≤ intervals values held) is.low least;
       below = least_≤ values (highs intervals) m v.hi (highs_≤ intervals values held) least is.high;
     }
 
 pub greatest_holds : (half nominal uncertainty : ℕ) (recorded : List Fraction) (voltages : List Interval) (cuts : List ℕ) (intervals : List Interval) (v : Interval) → 0 < nominal → AllZip (IsVoltageInterval nominal uncertainty) recorded voltages
-    → AreHalfPeriodIntervals half cuts voltages intervals → IsExtremeInterval IsGreatest intervals v → HoldsEveryRun IsGreatest half nominal uncertainty recorded cuts v
+    → AreHalfPeriodIntervals half cuts voltages intervals → IsExtremeInterval IsGreatest intervals v → HoldsEveryExtreme IsGreatest half nominal uncertainty recorded cuts v
 greatest_holds half nominal uncertainty recorded voltages cuts intervals v some are_voltages are_intervals is run values m admitted those greatest =
-    let held = intervals_hold half cuts voltages run intervals values (run_held nominal uncertainty recorded voltages run some are_voltages admitted) are_intervals those in
+    let held = intervals_hold half cuts voltages run intervals values (voltages_hold nominal uncertainty recorded voltages run some are_voltages admitted) are_intervals those in
     record {
       above = greatest_≤ (lows intervals) values v.lo m (lows_≤ intervals values held) is.low greatest;
       below = greatest_≤ values (highs intervals) m v.hi (highs_≤ intervals values held) greatest is.high;
@@ -74,16 +68,6 @@ voltages_narrow nominal uncertainty [] (v ∷ vs) delta some are covers = absurd
 voltages_narrow nominal uncertainty (x ∷ xs) [] delta some are covers = absurd are
 voltages_narrow nominal uncertainty (x ∷ xs) (v ∷ vs) delta some are covers =
     All-cons (IsNarrow delta) v vs (voltage_narrow nominal uncertainty x v delta some are.0 covers) (voltages_narrow nominal uncertainty xs vs delta some are.1 covers)
-
--- a delta that covers the doubt is not below 0
-natural_by : (n e d : ℕ) (z : ℤ) → 0 < n → ((pos e *ℤ pos (1 * 2 ^ 48) +ℤ (pos n *ℤ pos 2) *ℤ pos 1) *ℤ pos (1 * d)) ≤ℤ ((pos n *ℤ z) *ℤ pos (1 * (1 * 2 ^ 48))) → pos 0 ≤ℤ z
-natural_by n e d (pos k) some h = omega (arith, ints)
-natural_by n e d (negsuc k) some h =
-    let most = from_at_most (times_is (plus_is (times_is (nat e) (nat (1 * 2 ^ 48))) (times_is (times_is (nat n) (nat 2)) (nat 1))) (nat (1 * d))) (times_is (times_is (nat n) (atom (negsuc k))) (nat (1 * (1 * 2 ^ 48)))) h in
-    absurd (omega (arith, most))
-
-pub delta_natural : (n e : ℕ) (delta : Fraction) → 0 < n → CoversDoubt n e delta → pos 0 ≤ℤ delta.num
-delta_natural n e delta some h = natural_by n e delta.den delta.num some h.covers.cross
 
 -- an interval within the width of a narrow one is narrow
 narrower : (a b : ℤ) (w : Fraction) → a ≤ℤ b → whole b ≤ℚ w → whole a ≤ℚ w
@@ -113,7 +97,7 @@ all_narrow : (half nominal uncertainty : ℕ) (negative : List Bool) (recorded :
     → AllZip (IsVoltageInterval nominal uncertainty) recorded voltages → AreHalfPeriodIntervals half cuts voltages intervals → CoversDoubt (1000 * nominal) uncertainty delta → All (IsNarrowHalfPeriod delta) intervals
 all_narrow half nominal uncertainty negative recorded voltages cuts intervals delta some high are_cuts are_voltages are_intervals covers =
     let thousand : 0 < 1000 * nominal = omega arith in
-    intervals_narrow half negative cuts voltages intervals delta some are_cuts (delta_natural (1000 * nominal) uncertainty delta thousand covers)
+    intervals_narrow half negative cuts voltages intervals delta some are_cuts (CoversDoubt-natural (1000 * nominal) uncertainty delta thousand covers)
     (voltages_narrow nominal uncertainty recorded voltages delta high are_voltages covers) are_intervals
 
 pub least_keeps_width : (half nominal uncertainty : ℕ) (negative : List Bool) (recorded : List Fraction) (voltages : List Interval) (cuts : List ℕ) (intervals : List Interval) (v : Interval) → 0 < half → 0 < nominal → AreCuts half negative cuts

@@ -20,7 +20,7 @@ use Rattle.flk_scale.proofs.VoltageLemmas.{voltage_same}
 use Rattle.flk_half.specs.Cutter.{IsHalfPeriodInterval}
 use Rattle.flk_half.specs.Intervals.{AreHalfPeriodIntervals}
 use Rattle.flk_half.proofs.IntervalsLemmas.{intervals_unique}
-use Rattle.flk_top.specs.Levels.{IsExtremeInterval, AreExtremes, AreExtremesIfAny, AreLevels}
+use Rattle.flk_top.specs.Levels.{IsExtremeInterval, AreExtremes, AreExtremesIfAny, AreHalfPeriodLevels}
 use Rattle.flk_top.specs.Text.{extremes_text, levels_text}
 use Rattle.flk_top.specs.declared.measure.Levels.{Levels}
 use Rattle.flk_top.specs.declared.measure.Extremes.{Extremes}
@@ -63,7 +63,7 @@ extremes_text_same half nominal uncertainty recorded cuts (Some e) (Some f) h k 
     let same = extremes_unique half nominal uncertainty recorded cuts e f h k in
     rw (same.0, same.1) refl
 
-pub levels_text_same : (channel half nominal uncertainty : ℕ) (recorded : List Fraction) (a b : Levels) → AreLevels half nominal uncertainty recorded a → AreLevels half nominal uncertainty recorded b
+pub levels_text_same : (channel half nominal uncertainty : ℕ) (recorded : List Fraction) (a b : Levels) → AreHalfPeriodLevels half nominal uncertainty recorded a → AreHalfPeriodLevels half nominal uncertainty recorded b
     → levels_text channel a ≡ levels_text channel b
 levels_text_same channel half nominal uncertainty recorded a b h k =
     let cuts : h.cuts ≡ k.cuts = cuts_unique half (map is_below_zero recorded) h.cuts k.cuts h.are_cuts k.are_cuts in

@@ -24,7 +24,6 @@ mod LevelsExist
 mod ReportOnce
 mod ReportHeadline
 mod WordCases
-mod WholeExists
 mod ReportExists
 mod AnswerExists
 mod RunLemmas

@@ -1,26 +1,21 @@
 -- What one more sample does to a measurement.
-use Rattle.std.proofs.Common.{◌≡◌, ℕ, ◌+◌, ◌<◌, List, [], ◌∷◌, ◌++◌, length, map, take, drop, ℤ, pos, Option, Some, None, IfSome, IfNone, sym, subst, ap, ◌∙◌, refl, arith, length-append, append_assoc, ⊎_elim}
+use Rattle.std.proofs.Common.{◌≡◌, ℕ, ◌+◌, ◌<◌, List, [], ◌∷◌, ◌++◌, length, map, take, drop, ℤ, pos, Option, Some, None, IfSome, IfNone, sym, subst, ap, ◌∙◌, refl, arith, length-append, append_assoc}
 use Rattle.std.specs.Prelude.{slice_index_or}
-use Rattle.std.proofs.lemmas.Bool.{cases_lt}
 use Rattle.std.proofs.lemmas.List.{map-append, take_all, take_more, take-append-drop, get_or_append_left}
-use Rattle.std.proofs.Math.Seq.{get_or-append_seam}
 use Rattle.flk_exact.specs.Fraction.{Fraction, whole}
 use Rattle.flk_exact.specs.Cut.{half_periods}
 use Rattle.flk_exact.proofs.ListLemmas.{AllZip-length, AllZip-push}
 use Rattle.flk_exact.proofs.CutLemmas.{length-half_periods}
-use Rattle.flk_num.specs.Rate.{half_at}
-use Rattle.flk_num.specs.declared.rate.Rate.{Rate}
-use Rattle.flk_num.specs.declared.rate.Rate.TheVariants.{R2400, R4800}
-use Rattle.flk_num.specs.declared.lamp.Lamp.{Lamp}
-use Rattle.flk_num.specs.declared.lamp.Lamp.TheVariants.{L230, L120}
 use Rattle.flk_num.specs.declared.interval.Interval.{Interval}
+use Rattle.flk_num.proofs.RateLemmas.{half_some}
 use Rattle.flk_scale.specs.Voltage.{is_below_zero, IsVoltageInterval, IsOverRange}
 use Rattle.flk_scale.specs.Scale.{nominal_of, uncertainty_of, voltage_of}
 use Rattle.flk_half.specs.Cutter.{IsHalfPeriodInterval, Continues, EndsHalfPeriod}
 use Rattle.flk_half.proofs.IntervalsLemmas.{HasCut-continues, HasCut-ends}
 use Rattle.flk_dat.specs.Records.{DataRecord, record_at, no_record}
 use Rattle.flk_scale.specs.Range.{IsFirstOver, IsWithinRange, voltage_at}
-use Rattle.flk_top.specs.Levels.{AreExtremeIntervalsIfAny, Gains, AreLevels}
+use Rattle.flk_scale.proofs.RangeLemmas.{within_more}
+use Rattle.flk_top.specs.Levels.{AreExtremeIntervalsIfAny, Gains, AreHalfPeriodLevels}
 use Rattle.flk_top.specs.Measuring.{half_of, told_voltage, HasMeasured, IsSameMeasurement}
 use Rattle.flk_top.specs.declared.measure.Levels.{Levels}
 use Rattle.flk_top.specs.declared.measure.Measure.{Measure}
@@ -28,22 +23,6 @@ use Rattle.flk_top.specs.declared.matching.Matched.{Matched}
 use Rattle.flk_top.proofs.LevelsLemmas.{are_extremes_if_any}
 
 -- ---- no voltage over range
-
--- a voltage before the last one is that of the list before it
-voltage_before : (recorded : List Fraction) (v : Fraction) (k : ℕ) → k < length recorded → voltage_at (recorded ++ v ∷ []) k ≡ voltage_at recorded k
-voltage_before recorded v k less = get_or_append_left recorded (v ∷ []) (whole (pos 0)) k less
-
-voltage_last : (recorded : List Fraction) (v : Fraction) → voltage_at (recorded ++ v ∷ []) (length recorded) ≡ v
-voltage_last recorded v = get_or-append_seam recorded v [] (whole (pos 0))
-
-within_more : (nominal : ℕ) (recorded : List Fraction) (v : Fraction) → IsWithinRange nominal recorded → ¬ IsOverRange nominal v → IsWithinRange nominal (recorded ++ v ∷ [])
-within_more nominal recorded v within fine = λ k less over.
-    ⊎_elim
-    (λ before. within k before (subst (IsOverRange nominal) (voltage_before recorded v k before) over))
-    (λ last.
-    let here : k ≡ length recorded = omega (arith, less, last, length-append recorded (v ∷ [])) in
-    fine (subst (IsOverRange nominal) (ap (voltage_at (recorded ++ v ∷ [])) here ∙ voltage_last recorded v) over))
-    (cases_lt k (length recorded))
 
 -- ---- one sample more
 
@@ -90,15 +69,9 @@ pub measured_more : (old new : Measure) (recorded : List Fraction) (x : Fraction
 measured_more old new recorded x v None h matched taken gains fine is continues ends = measured_continues old new recorded x v h matched taken gains fine is continues
 measured_more old new recorded x v (Some value) h matched taken gains fine is continues ends = measured_ends old new recorded x v value h matched taken gains fine is ends
 
-pub half_some : (lamp : Lamp) (rate : Rate) → 0 < half_at lamp rate
-half_some L230 R2400 = omega arith
-half_some L120 R2400 = omega arith
-half_some L230 R4800 = omega arith
-half_some L120 R4800 = omega arith
-
 -- at the end these are the levels
 pub measured_levels : (m : Measure) (recorded : List Fraction) → 0 < nominal_of m.matched.scale → HasMeasured m recorded
-    → AreLevels (half_of m.matched) (nominal_of m.matched.scale) (uncertainty_of m.matched.scale) recorded m.levels
+    → AreHalfPeriodLevels (half_of m.matched) (nominal_of m.matched.scale) (uncertainty_of m.matched.scale) recorded m.levels
 measured_levels m recorded high h =
     let half = half_of m.matched in
     let cuts = h.cut.cuts in

@@ -11,9 +11,9 @@ use Rattle.flk_top.specs.CheckDue.{IsDueForSummary, file_fault, checked, IsDueFo
 use Rattle.flk_top.specs.Command.{inputs_of}
 use Rattle.flk_top.specs.Configuration.{IsConfiguration}
 use Rattle.flk_top.specs.Faults.{match_line, range_line}
-use Rattle.flk_top.specs.Levels.{AreLevels}
+use Rattle.flk_top.specs.Levels.{AreHalfPeriodLevels}
 use Rattle.flk_top.specs.LevelsDue.{IsDueForRecording, data_fault, over_range, measured, IsDueForLevels, no_configuration, no_match, matched}
-use Rattle.flk_top.specs.Matching.{IsMatchFault, recorded_voltages}
+use Rattle.flk_top.specs.Matching.{IsChannelMatchFault, recorded_voltages}
 use Rattle.flk_top.specs.Outcome.{Outcome, completed}
 use Rattle.flk_top.specs.Text.{check_text}
 use Rattle.flk_top.specs.Told.{Files}
@@ -31,16 +31,16 @@ use Rattle.flk_top.proofs.TablesLemmas.{one_table}
 
 -- ---- the fault of the tests on a configuration
 
-one_match_fault : (c : Config) (channel : ℕ) (f g : MatchFault) → IsMatchFault c channel f → IsMatchFault c channel g → f ≡ g
+one_match_fault : (c : Config) (channel : ℕ) (f g : MatchFault) → IsChannelMatchFault c channel f → IsChannelMatchFault c channel g → f ≡ g
 one_match_fault c channel f g (inl h) (inl k) = one_fault c channel f g h k
 one_match_fault c channel f g (inl h) (inr k) = absurd (measured_has_no_fault c channel f k.0 h)
 one_match_fault c channel f g (inr h) (inl k) = absurd (measured_has_no_fault c channel g h.0 k)
 one_match_fault c channel f g (inr h) (inr k) = h.1.0 ∙ sym k.1.0
 
 same_match_line : (bytes : List ℕ) (channel : ℕ) (x y : Config) (f g : MatchFault) → IsConfiguration bytes x → IsConfiguration bytes y
-    → IsMatchFault x channel f → IsMatchFault y channel g → match_line f ≡ match_line g
+    → IsChannelMatchFault x channel f → IsChannelMatchFault y channel g → match_line f ≡ match_line g
 same_match_line bytes channel x y f g is that failed other =
-    ap match_line (one_match_fault y channel f g (subst (λ i. IsMatchFault i channel f) (one_configuration bytes x y is that) failed) other)
+    ap match_line (one_match_fault y channel f g (subst (λ i. IsChannelMatchFault i channel f) (one_configuration bytes x y is that) failed) other)
 
 -- ---- the data
 
@@ -64,7 +64,7 @@ one_recording channel nominal uncertainty c a lamp bytes o p (measured rs found 
     absurd (over_or_accepted (layout_of c (channel ∷ [])) bytes a channel nominal ss rs i first is over within)
 one_recording channel nominal uncertainty c a lamp bytes o p (measured rs found is within are out) (measured ss other that fine those also) =
     let same = file_once (layout_of c (channel ∷ [])) bytes rs ss is.file that.file in
-    let moved = subst (λ zs. AreLevels (half_at lamp c.rate) nominal uncertainty (recorded_voltages a channel zs) found) same are in
+    let moved = subst (λ zs. AreHalfPeriodLevels (half_at lamp c.rate) nominal uncertainty (recorded_voltages a channel zs) found) same are in
     out ∙ ap completed (levels_text_same channel (half_at lamp c.rate) nominal uncertainty (recorded_voltages a channel ss) found other moved those) ∙ sym also
 
 one_summary : (c : Config) (bytes : List ℕ) (o p : Outcome) → IsDueForSummary c bytes o → IsDueForSummary c bytes p → o ≡ p

@@ -1,10 +1,13 @@
--- Outcomes that are equal, and the outcome of a reply.
+-- That there is an outcome, outcomes that are equal, and the outcome of a reply.
 use Rattle.std.proofs.Common.{◌≡◌, ℕ, List, [], sym, ap, ◌∙◌, string_bytes}
 use Rattle.flk_top.specs.Outcome.{Outcome, completed, refusal}
 use Rattle.flk_top.specs.Status.{status_number}
 use Rattle.flk_top.specs.Replies.{outcome_of}
 use Rattle.flk_top.specs.declared.reply.Reply.{Reply}
 use Rattle.flk_top.specs.declared.reply.Status.TheVariants.{Done, Refused}
+
+abbrev pub HasOutcome : (Outcome → Type 0) → Type 0
+HasOutcome due = (o : Outcome) × due o
 
 -- two refusals of one line
 pub agreed : {o p : Outcome} {xs ys : List ℕ} → o ≡ refusal xs → p ≡ refusal ys → xs ≡ ys → o ≡ p

@@ -18,18 +18,18 @@ use Rattle.flk_scale.proofs.RangeLemmas.{over_cases}
 use Rattle.flk_job.specs.declared.job.Job.{Job}
 use Rattle.flk_dat.specs.Records.{DataRecord, Rows}
 use Rattle.flk_section.specs.Filter.{FilterNumbers}
-use Rattle.flk_result.specs.Conditions.{Conditions, conditions_of}
+use Rattle.flk_result.specs.Conditions.{Conditions, conditions_for}
 use Rattle.flk_result.specs.declared.result.Setup.{Setup}
 use Rattle.flk_result.specs.Promise.{KeepsPromise}
 use Rattle.flk_result.specs.declared.result.PhaseResult.{PhaseResult}
 use Rattle.flk_result.specs.Widths.{KeepsWidths}
 use Rattle.flk_section.specs.declared.whole.Whole.{Whole}
 use Rattle.flk_section.specs.Whole.{numbers_of}
-use Rattle.flk_phase.specs.Phase.{conditions_of as conditions_of_phase, scale_of, channel_of, over_of, taken_of, column_of as column, told_by, IsMadeFor, Stands}
+use Rattle.flk_phase.specs.Phase.{conditions_of, scale_of, channel_of, over_of, taken_of, column_of as column, told_by, IsMadeFor, Stands}
 use Rattle.flk_phase.specs.Taking.{Takes}
 use Rattle.flk_phase.specs.declared.phase.Phase.{Phase}
 use Rattle.flk_top.specs.Matching.{sample_of, recorded_voltages}
-use Rattle.flk_top.specs.ReportDue.{setup_of, IsOverAt, AreWithinBefore, AreWithin, IsFirstOverOf, IsResultOf, AreResults}
+use Rattle.flk_top.specs.ReportDue.{setup_of, IsOverAt, AreWithinRangeBefore, AreWithinRange, IsFirstOverOf, IsResultOf, AreResults}
 use Rattle.flk_top.specs.Working.{IsFirstOverOfPhases, IsPhaseOf, HasColumn, TakesSamples, IsEndOf, ArePhasesOf, HaveWorked, AreReserved, IsReserved, TakeRecords, NoneIsOver, IsFirstPhaseOver, CanWork, IsOverTold}
 
 -- ---- the voltages of a channel
@@ -45,7 +45,7 @@ told_recorded j c filter channel p h (r ∷ rs) =
     ap (λ (v : Fraction). v ∷ told_by (scale_of p) (column (channel_of p) rs)) one
     ∙ ap (λ (vs : List Fraction). recorded_voltage h.analog (sample_of channel r) ∷ vs) (told_recorded j c filter channel p h rs)
 
-voltages_length : (a : Analog) (channel : ℕ) (rs : List DataRecord) → length (recorded_voltages a channel rs) ≡ length rs
+pub voltages_length : (a : Analog) (channel : ℕ) (rs : List DataRecord) → length (recorded_voltages a channel rs) ≡ length rs
 voltages_length a channel rs = length-map rs (λ r. recorded_voltage a (sample_of channel r))
 
 -- a voltage of the first records is the same where more follow
@@ -169,9 +169,9 @@ phases_more j c filter old new more h takes = record {
 }
 
 -- the channel at this turn was over range nowhere before
-before_more : (j : Job) (c : Config) (rs more : List DataRecord) (place : ℕ) → AreWithin j c rs
+before_more : (j : Job) (c : Config) (rs more : List DataRecord) (place : ℕ) → AreWithinRange j c rs
     → ((m turn none : ℕ) → length rs + m < place → turn < length j.channels → ¬ IsOverAt j c (rs ++ more) (length rs + m) (slice_index_or j.channels turn none))
-    → AreWithinBefore j c (rs ++ more) place
+    → AreWithinRangeBefore j c (rs ++ more) place
 before_more j c rs more place within behind = λ i turn none less there over.
     ⊎_elim
     (λ before. within i turn none before there (over_before j c rs more i (slice_index_or j.channels turn none) before over))
@@ -290,9 +290,9 @@ result_is j c filter channel p rs r h had ends = record {
   analog = h.analog;
   is = h.is;
   keeps = subst (λ (k : Conditions). KeepsPromise k (recorded_voltages h.analog channel rs) r) h.conditions_are
-      (subst (λ (vs : List Fraction). KeepsPromise (conditions_of_phase p) vs r) (told_recorded j c filter channel p h rs) (ends.keeps (column (channel_of p) rs) had.stands));
+      (subst (λ (vs : List Fraction). KeepsPromise (conditions_of p) vs r) (told_recorded j c filter channel p h rs) (ends.keeps (column (channel_of p) rs) had.stands));
   widths = subst (λ (k : Conditions). KeepsWidths k (recorded_voltages h.analog channel rs) r) h.conditions_are
-      (subst (λ (vs : List Fraction). KeepsWidths (conditions_of_phase p) vs r) (told_recorded j c filter channel p h rs) (ends.widths (column (channel_of p) rs) had.stands));
+      (subst (λ (vs : List Fraction). KeepsWidths (conditions_of p) vs r) (told_recorded j c filter channel p h rs) (ends.widths (column (channel_of p) rs) had.stands));
 }
 
 pub results_are : (j : Job) (c : Config) (filter : FilterNumbers) (phases : List Phase) (rs : List DataRecord) (results : List PhaseResult) → HaveWorked j c filter phases rs → AllZip IsEndOf phases results
@@ -393,9 +393,9 @@ new_phase j c w channel a s setup p is scale same made stands = record {
     scale = subst (IsScaleOf a j.supply) (sym made.scale_is) scale;
     channel_is = made.channel_is;
     conditions_are = made.conditions_are
-        ∙ ap (λ (x : Setup). conditions_of x (numbers_of w) (nominal_of s) (uncertainty_of s)) same
-        ∙ ap (λ (n : ℕ). conditions_of (setup_of j c) (numbers_of w) n (uncertainty_of s)) scale.nominal
-        ∙ ap (λ (u : ℕ). conditions_of (setup_of j c) (numbers_of w) j.supply.nominal_mv u) scale.uncertainty;
+        ∙ ap (λ (x : Setup). conditions_for x (numbers_of w) (nominal_of s) (uncertainty_of s)) same
+        ∙ ap (λ (n : ℕ). conditions_for (setup_of j c) (numbers_of w) n (uncertainty_of s)) scale.nominal
+        ∙ ap (λ (u : ℕ). conditions_for (setup_of j c) (numbers_of w) j.supply.nominal_mv u) scale.uncertainty;
   };
   nothing = record { stands = stands; not_over = made.none_over; taken = made.nothing };
 }
@@ -497,7 +497,3 @@ reserved_done n old mid i p q there is one done rest k d less =
     (λ before. subst (IsReserved n (get_or old k d)) (sym (get_or-set_other mid i k q d (λ same. omega (arith, before, same)))) (done k d before))
     (subst (λ (x : Phase). IsReserved n x (get_or (set mid i q) i d)) (is ∙ get_or_default mid i p d there ∙ rest i d (omega arith))
     (subst (IsReserved n p) (sym (get_or-set_same mid i q d there)) one))
-
-pub reserved_rest : (old mid : List Phase) (i : ℕ) (q : Phase) → ((k : ℕ) (d : Phase) → i ≤ k → get_or mid k d ≡ get_or old k d)
-    → (k : ℕ) (d : Phase) → i + 1 ≤ k → get_or (set mid i q) k d ≡ get_or old k d
-reserved_rest old mid i q rest k d most = get_or-set_other mid i k q d (λ same. omega (arith, most, same)) ∙ rest k d (omega (arith, most))

@@ -1,8 +1,7 @@
 -- From what was read and found to what is due.
-use Rattle.std.proofs.Common.{◌≡◌, ◌≢◌, ℕ, zero, suc, ◌<◌, ◌≤◌, List, [], ◌∷◌, ◌++◌, length, length-append, map, ◌+◌, Option, Some, None, Result, Ok, Err, IfOk, refl, sym, ap, ◌∙◌, subst, string_bytes, arith}
+use Rattle.std.proofs.Common.{◌≡◌, ◌≢◌, ℕ, zero, suc, ◌<◌, ◌≤◌, List, [], ◌∷◌, length, length-append, map, ◌+◌, Option, Some, None, Result, Ok, Err, IfOk, refl, sym, ap, ◌∙◌, subst, string_bytes, arith}
 use Rattle.std.specs.Prelude.{slice_index_or, Contains}
 use Rattle.std.specs.List.{AllZip}
-use Rattle.std.proofs.lemmas.List.{append-nil}
 use Rattle.flk_io.specs.Causes.{TakesAll, TakesFront}
 use Rattle.flk_io.specs.Told.{ShelfTold, ReadsUnder}
 use Rattle.flk_num.specs.declared.stop.Stop.TheVariants.{Fault}
@@ -18,7 +17,7 @@ use Rattle.flk_top.specs.Command.{Asks, IsCheck, configuration_name, data_name}
 use Rattle.flk_top.specs.Configuration.{configuration_limit, IsConfiguration, IsConfigurationFault, too_long, first_fault}
 use Rattle.flk_top.specs.Faults.{configuration_line, match_line}
 use Rattle.flk_top.specs.LevelsDue.{IsDueForRecording, no_configuration, no_match, matched}
-use Rattle.flk_top.specs.Matching.{IsMatchFault}
+use Rattle.flk_top.specs.Matching.{IsChannelMatchFault}
 use Rattle.flk_top.specs.Measuring.{IsMatched}
 use Rattle.flk_top.specs.Outcome.{refusal}
 use Rattle.flk_top.specs.Replies.{outcome_of, IsExplained, ReadsOnly, AwaitsTurns}
@@ -30,19 +29,8 @@ use Rattle.flk_top.specs.declared.matching.Matched.{Matched}
 use Rattle.flk_scale.specs.declared.fault.MatchFault.{MatchFault}
 use Rattle.flk_top.specs.declared.reply.Reply.{Reply}
 use Rattle.flk_top.specs.declared.reply.Status.TheVariants.{Refused, ReadFailed}
-use Rattle.flk_top.proofs.AgreeingFiles.{told_or_none, may_be_told, contains_first, contains_next}
+use Rattle.flk_top.proofs.AgreeingFiles.{told_or_none, may_be_told, contains_first, contains_next, MayHold-all}
 use Rattle.flk_top.proofs.Outcomes.{is_refusal}
-
--- ---- what was read may be what stands there
-
--- what was read to its end
-pub all_may_be : (old new : Option (List ℕ)) (bytes : List ℕ) → TakesAll old new bytes → MayHold old bytes
-all_may_be None new bytes took = λ held is. cc
-all_may_be (Some xs) None bytes took = absurd took.0
-all_may_be (Some xs) (Some ys) bytes took = λ held is.
-    let same : xs ≡ held = cc in
-    let all : xs ≡ bytes ++ [] = rw took.1 at took.0 in
-    sym (all ∙ append-nil bytes) ∙ same
 
 -- ---- the configuration
 
@@ -69,7 +57,7 @@ pub fault_refused : (left after : Option (List ℕ)) (bytes : List ℕ) (fault :
     → IsFileAnswer bytes (Err (Fault fault)) → (r.status ≡ Refused) × (string_bytes r.text ≡ configuration_line fault.line fault.field fault.kind) → IsRefusedConfiguration left r
 fault_refused left after bytes fault r took small is told =
     let line : string_bytes r.text ≡ configuration_line fault.line fault.field (kind_number is.0) = told.1 ∙ ap (λ k. configuration_line fault.line fault.field k) is.1 in
-    (bytes, string_bytes r.text, all_may_be left after bytes took, first_fault fault.line fault.field is.0 small is.2 line, is_refusal r (string_bytes r.text) told.0 refl)
+    (bytes, string_bytes r.text, MayHold-all left after bytes took, first_fault fault.line fault.field is.0 small is.2 line, is_refusal r (string_bytes r.text) told.0 refl)
 
 -- ---- two files that differ in name
 
@@ -117,7 +105,7 @@ levels_unread words told name command r is refused = λ fine.
     (out.0 ∷ any_data words told ∷ [], two_contents words told name out.0 (any_data words told) is out.2 (may_be_told (told.left (data_name words))), no_configuration out.1 out.3 out.4)
 
 pub levels_unmatched : {E : Type 0} (words : List (List ℕ)) (told : ShelfTold) (name : List ℕ) (command : LevelsCommand) (c : Config) (fault : MatchFault) (r : Result Reply E) → name ≡ configuration_name words
-    → (bytes : List ℕ) × MayHold (told.left name) bytes × IsConfiguration bytes c → IsMatchFault c command.channel fault
+    → (bytes : List ℕ) × MayHold (told.left name) bytes × IsConfiguration bytes c → IsChannelMatchFault c command.channel fault
     → IfOk r (λ x. (x.status ≡ Refused) × (string_bytes x.text ≡ match_line fault)) → IfOk r (IsExplained (Levels command) (two_names words) told)
 levels_unmatched words told name command c fault (Ok x) is found failed reply = λ fine. (
   found.0 ∷ any_data words told ∷ [],

@@ -1,21 +1,20 @@
 -- Some outcome of a report is due: files have a first fault, or results.
-use Rattle.std.proofs.Common.{◌≡◌, ◌⊎◌, ℕ, zero, suc, ◌+◌, ◌-◌, ◌*◌, ◌/◌, ◌<◌, ◌≤◌, min, List, [], ◌∷◌, length, refl, sym, ap, ◌∙◌, subst, arith, ⊎_elim, inl, inr}
+use Rattle.std.proofs.Common.{◌≡◌, ◌⊎◌, ℕ, zero, suc, ◌+◌, ◌-◌, ◌/◌, ◌<◌, ◌≤◌, min, List, [], ◌∷◌, length, refl, sym, ap, ◌∙◌, subst, arith, ⊎_elim, inl, inr}
 use Rattle.std.specs.Prelude.{slice_index_or}
 use Rattle.std.specs.List.{AllZip}
-use Rattle.std.proofs.Math.Nat.{le-div_iff_mul-le, le-mul_of_pos_right}
+use Rattle.std.proofs.Math.Nat.{le-div_iff_mul-le, mul-pos}
 use Rattle.std.proofs.lemmas.Bool.{cases_lt}
 use Rattle.std.proofs.lemmas.List.{length-map, get_or_default}
 use Rattle.flk_exact.specs.Fraction.{Fraction}
 use Rattle.flk_exact.proofs.ListLemmas.{AllZip-length}
-use Rattle.flk_num.specs.Rate.{samples_per_second, sampling_interval}
-use Rattle.flk_num.specs.declared.rate.Rate.{Rate}
-use Rattle.flk_num.specs.declared.rate.Rate.TheVariants.{R2400, R4800}
+use Rattle.flk_num.specs.Rate.{sampling_interval}
+use Rattle.flk_num.proofs.RateLemmas.{rate_some}
 use Rattle.flk_cfg.specs.declared.config.Analog.{Analog}
 use Rattle.flk_cfg.specs.declared.config.Config.{Config}
 use Rattle.flk_scale.specs.Channel.{IsChannel}
 use Rattle.flk_scale.specs.Matching.{CanBeMeasured}
 use Rattle.flk_scale.specs.Range.{voltage_at, IsFirstOver, IsWithinRange}
-use Rattle.flk_scale.specs.Voltage.{IsOverRange, recorded_voltage}
+use Rattle.flk_scale.specs.Voltage.{IsOverRange}
 use Rattle.flk_scale.proofs.MatchingLemmas.{one_channel}
 use Rattle.flk_scale.proofs.RangeLemmas.{over_cases}
 use Rattle.flk_job.specs.Job.{AreInSets}
@@ -25,6 +24,7 @@ use Rattle.flk_job.specs.declared.job.Job.{Job}
 use Rattle.flk_job.proofs.JobCases.{job_cases}
 use Rattle.flk_job.proofs.KeyLemmas.{in_sets}
 use Rattle.flk_job.proofs.MatchLemmas.{match_cases}
+use Rattle.flk_job.specs.Times.{run_in_samples, interval_samples}
 use Rattle.flk_dat.specs.Kinds.{data_kind_number as record_kind}
 use Rattle.flk_dat.specs.Records.{DataRecord}
 use Rattle.flk_dat.proofs.FileCases.{accepted_or_first_fault}
@@ -33,6 +33,7 @@ use Rattle.flk_design.specs.Lamp.{constants_of}
 use Rattle.flk_design.specs.Design.{IsDigital, IsDesign}
 use Rattle.flk_section.specs.declared.whole.Whole.{Whole}
 use Rattle.flk_section.specs.Filter.{FilterNumbers}
+use Rattle.flk_section.proofs.WholeExists.{whole_exists}
 use Rattle.flk_result.specs.Conditions.{AreSensible, AreEnough}
 use Rattle.flk_result.specs.Promise.{IsFilterOf}
 use Rattle.flk_result.specs.declared.result.PhaseResult.{PhaseResult}
@@ -41,25 +42,23 @@ use Rattle.flk_result.proofs.QuantityLemmas.{own_run}
 use Rattle.flk_result.proofs.HoldLemmas.{result_keeps}
 use Rattle.flk_result.specs.RunQuantities.{RunQuantities}
 use Rattle.flk_result.proofs.WidthLemmas.{widths_kept}
-use Rattle.flk_top.specs.Certified.{IsAccepted as IsAcceptedSection, gains_in, IsCertifiedLamp, lamp_fault_number}
+use Rattle.flk_top.specs.Certified.{IsCertifiedSection, gains_in, IsCertifiedLamp, lamp_fault_number}
 use Rattle.flk_top.specs.Configuration.{IsConfiguration, IsConfigurationFault}
 use Rattle.flk_top.specs.Faults.{job_line, match_line, lamp_line, data_line, range_line}
 use Rattle.flk_top.specs.Headline.{ReportedRecording, AreAcceptedForReport, AreOfRun, AreOfRuns}
 use Rattle.flk_top.specs.Told.{Files}
-use Rattle.flk_top.specs.Matching.{sample_of, recorded_voltages}
-use Rattle.flk_top.specs.Outcome.{Outcome, refusal}
-use Rattle.flk_top.specs.ReportDue.{conditions_in, IsOverAt, AreWithin, IsFirstOverOf, IsResultOf, AreResults, reported_outcome, job_layout}
+use Rattle.flk_top.specs.Matching.{recorded_voltages}
+use Rattle.flk_top.specs.Outcome.{refusal}
+use Rattle.flk_top.specs.ReportDue.{conditions_in, IsOverAt, AreWithinRange, IsFirstOverOf, IsResultOf, AreResults, reported_outcome, job_layout}
 use Rattle.flk_top.specs.ReportDue.{IsDueForPhases, data_fault, over_range, reported, IsDueForJob, no_match, no_filter, certified, IsDueForReport, no_job, no_configuration, read}
 use Rattle.flk_top.specs.Tables.{bound_of}
 use Rattle.flk_top.specs.declared.certified.CertifiedSection.{CertifiedSection}
 use Rattle.flk_top.proofs.LampLemmas.{certified_cases}
 use Rattle.flk_top.proofs.ReportReplies.{job_is_enough, filter_design}
-use Rattle.flk_top.proofs.WholeExists.{whole_exists}
+use Rattle.flk_top.proofs.PhasesLemmas.{voltages_length}
+use Rattle.flk_top.proofs.Outcomes.{HasOutcome}
 
 -- ---- over range, or not
-
-voltages_length : (a : Analog) (channel : ℕ) (rs : List DataRecord) → length (recorded_voltages a channel rs) ≡ length rs
-voltages_length a channel rs = length-map rs (λ r. recorded_voltage a (sample_of channel r))
 
 -- none of the first so many channels is over range before this record
 abbrev AreWithinTo : Job → Config → List DataRecord → (turns place : ℕ) → Type 0
@@ -158,7 +157,7 @@ turns_cases j c rs is (suc n) room = one_more (turns_cases j c rs is n (omega (a
         (λ most. inr (h.0, h.1, old_first h.0 h.1 h.2 (λ i few. found.1.first i (omega (arith, few, most)))))
         (cases_lt k h.0)
 
-pub range_cases : (j : Job) (c : Config) (rs : List DataRecord) → IsMatch j c → AreWithin j c rs ⊎ ((place : ℕ) × (channel : ℕ) × IsFirstOverOf j c rs place channel)
+pub range_cases : (j : Job) (c : Config) (rs : List DataRecord) → IsMatch j c → AreWithinRange j c rs ⊎ ((place : ℕ) × (channel : ℕ) × IsFirstOverOf j c rs place channel)
 range_cases j c rs is =
     elim (turns_cases j c rs is (length j.channels) (omega arith)) [
       | inl within ↦ inl within
@@ -180,13 +179,6 @@ range_cases j c rs is =
 
 -- ---- the results
 
-rate_some : (rate : Rate) → 0 < samples_per_second rate
-rate_some R2400 = omega arith
-rate_some R4800 = omega arith
-
-product_some : (a b : ℕ) → 0 < a → 0 < b → 0 < a * b
-product_some a b h k = omega (arith, le-mul_of_pos_right a k, h)
-
 -- one interval at least is judged
 count_some : (records run_in interval : ℕ) → 0 < interval → run_in + interval ≤ records → 0 < min 12 ((records - run_in) / interval)
 count_some records run_in interval some long =
@@ -195,11 +187,10 @@ count_some records run_in interval some long =
 
 conditions_sensible : (j : Job) (c : Config) (filter : FilterNumbers) → AreInSets j → IsMatch j c → AreSensible (conditions_in j c filter)
 conditions_sensible j c filter sets is =
-    let hertz = samples_per_second c.rate in
-    let some = product_some hertz j.interval_s (rate_some c.rate) (omega (arith, sets.interval_some)) in
+    let some = mul-pos (rate_some c.rate) (omega (arith, sets.interval_some)) in
     record {
       interval = some;
-      some = count_some c.endsamp (hertz * j.run_in_s) (hertz * j.interval_s) some (omega (arith, is.long));
+      some = count_some c.endsamp (run_in_samples j c.rate) (interval_samples j c.rate) some (omega (arith, is.long));
       few = omega arith;
       nominal = omega (arith, j.supply.nominal_low);
     }
@@ -208,8 +199,8 @@ filter_is : (j : Job) (c : Config) (ss : List CertifiedSection) → IsCertifiedL
 filter_is j c ss lamp =
     let sections : length (analog_sections (sampling_interval c.rate) (constants_of j.lamp)) ≡ length lamp.sections = AllZip-length IsDigital (analog_sections (sampling_interval c.rate) (constants_of j.lamp)) lamp.sections lamp.design in
     let gains : length (gains_in ss) ≡ length ss = length-map ss (λ (s : CertifiedSection). s.gain) in
-    let some : 0 < length (gains_in ss) = omega (arith, sections, AllZip-length IsAcceptedSection lamp.sections ss lamp.accepted, gains) in
-    let whole = whole_exists (gains_in ss) some lamp.bounded in
+    let some : 0 < length (gains_in ss) = omega (arith, sections, AllZip-length IsCertifiedSection lamp.sections ss lamp.accepted, gains) in
+    let whole = whole_exists (gains_in ss) some lamp.bounded.fits lamp.bounded.bound in
     let design = filter_design j.lamp c.rate ss whole.0 lamp whole.1 in (
       whole.0,
       record { numbers = whole.1.numbers; design = subst (λ (f : FilterNumbers). IsDesign (sampling_interval c.rate) (constants_of j.lamp) f.coefs) whole.1.numbers design },
@@ -247,9 +238,6 @@ results_exist j c ss rs sets is lamp count =
     all_results (IsResultOf j c (bound_of ss) rs) j.channels (λ i less. result_of j c ss rs (slice_index_or j.channels i 0) sets is lamp count (is.channels i 0 less))
 
 -- ---- the outcome
-
-abbrev HasOutcome : (Outcome → Type 0) → Type 0
-HasOutcome due = (o : Outcome) × due o
 
 phases_due : (j : Job) (c : Config) (ss : List CertifiedSection) (bytes : List ℕ) → AreInSets j → IsMatch j c → IsCertifiedLamp j.lamp c.rate ss → HasOutcome (IsDueForPhases j c (bound_of ss) bytes)
 phases_due j c ss bytes sets is lamp =

@@ -27,7 +27,7 @@ use Rattle.flk_top.specs.Command.{inputs_of, job_name, report_configuration_name
 use Rattle.flk_top.specs.Headline.{ReportedRecording, AreAcceptedForReport, AreOfRun, AreOfRuns, TellsVerdict, TellsReport}
 use Rattle.flk_top.specs.Matching.{recorded_voltages}
 use Rattle.flk_top.specs.Outcome.{Outcome}
-use Rattle.flk_top.specs.ReportDue.{conditions_in, AreWithin, IsResultOf, AreResults, reported_outcome, job_layout}
+use Rattle.flk_top.specs.ReportDue.{conditions_in, AreWithinRange, IsResultOf, AreResults, reported_outcome, job_layout}
 use Rattle.flk_top.specs.ReportDue.{IsDueForPhases, data_fault, over_range, reported, IsDueForJob, no_match, no_filter, certified, IsDueForReport, no_job, no_configuration, read}
 use Rattle.flk_top.specs.Tables.{bound_of}
 use Rattle.flk_top.specs.Told.{Files}
@@ -93,7 +93,7 @@ reported_told m o results are is = record {
   text_is = ap (λ (p : Outcome). p.text) is;
 }
 
-phases_told : (m : ReportedRecording) (bytes : List ℕ) (o : Outcome) → IsAccepted (job_layout m.job m.configuration) bytes m.records → AreWithin m.job m.configuration m.records
+phases_told : (m : ReportedRecording) (bytes : List ℕ) (o : Outcome) → IsAccepted (job_layout m.job m.configuration) bytes m.records → AreWithinRange m.job m.configuration m.records
     → IsDueForPhases m.job m.configuration (bound_of m.sections) bytes o → TellsReport m o.status o.text
 phases_told m bytes o is within (data_fault rs field kind fault fine out) =
     absurd (accepted_or_fault_after (job_layout m.job m.configuration) bytes m.records rs field kind is fault)

@@ -27,7 +27,7 @@ use Rattle.flk_top.specs.Configuration.{IsConfiguration}
 use Rattle.flk_top.specs.Faults.{match_line, lamp_line, range_line}
 use Rattle.flk_top.specs.Matching.{recorded_voltages}
 use Rattle.flk_top.specs.Outcome.{Outcome}
-use Rattle.flk_top.specs.ReportDue.{conditions_in, IsOverAt, AreWithinBefore, AreWithin, IsFirstOverOf, IsResultOf, AreResults, reported_outcome, job_layout}
+use Rattle.flk_top.specs.ReportDue.{conditions_in, IsOverAt, AreWithinRangeBefore, AreWithinRange, IsFirstOverOf, IsResultOf, AreResults, reported_outcome, job_layout}
 use Rattle.flk_top.specs.ReportDue.{IsDueForPhases, data_fault, over_range, reported, IsDueForJob, no_match, no_filter, certified, IsJobFault, IsDueForReport, no_job, no_configuration, read}
 use Rattle.flk_top.specs.Tables.{bound_of}
 use Rattle.flk_top.specs.declared.certified.CertifiedSection.{CertifiedSection}
@@ -78,17 +78,17 @@ over_at_turn j c rs place channel turn none is over = subst (IsOverAt j c rs pla
 
 -- no list within range so far has it
 over_or_before : (j : Job) (c : Config) (l : Layout) (bytes : List ℕ) (rs ss : List DataRecord) (place channel n : ℕ) → AreFirst l bytes rs → AreFirst l bytes ss → IsFirstOverOf j c rs place channel
-    → AreWithinBefore j c ss n → place < n → place < length ss → ⊥
+    → AreWithinRangeBefore j c ss n → place < n → place < length ss → ⊥
 over_or_before j c l bytes rs ss place channel n p q first within before less =
     within place first.turn 0 before first.turn_there (over_at_turn j c ss place channel first.turn 0 (first.channel_is 0) (over_kept j c l bytes rs ss place channel p q first.over less))
 
-pub over_or_accepted : (j : Job) (c : Config) (l : Layout) (bytes : List ℕ) (rs ss : List DataRecord) (place channel : ℕ) → AreFirst l bytes rs → IsAccepted l bytes ss → IsFirstOverOf j c rs place channel → AreWithin j c ss → ⊥
+pub over_or_accepted : (j : Job) (c : Config) (l : Layout) (bytes : List ℕ) (rs ss : List DataRecord) (place channel : ℕ) → AreFirst l bytes rs → IsAccepted l bytes ss → IsFirstOverOf j c rs place channel → AreWithinRange j c ss → ⊥
 over_or_accepted j c l bytes rs ss place channel p is first within =
     let less : place < length ss = omega (arith, first.over.there, p.within, is.file.count) in
     over_or_before j c l bytes rs ss place channel (length ss) p is.file.first first within less less
 
 over_or_fault : (j : Job) (c : Config) (l : Layout) (bytes : List ℕ) (rs ss : List DataRecord) (place channel field : ℕ) (kind : Kind) → AreFirst l bytes rs → ArePresent l rs → IsFirstOverOf j c rs place channel
-    → IsFaultAfter l bytes ss field kind → AreWithin j c ss → ⊥
+    → IsFaultAfter l bytes ss field kind → AreWithinRange j c ss → ⊥
 over_or_fault j c l bytes rs ss place channel field kind p present first fault within =
     ⊎_elim
     (λ less. over_or_before j c l bytes rs ss place channel (length ss) p fault.first first within less less)

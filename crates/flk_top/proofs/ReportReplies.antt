@@ -5,7 +5,7 @@ use Rattle.std.specs.List.{All, AllZip}
 use Rattle.std.proofs.Math.Nat.{div-add-mod', mul-le-mul_right}
 use Rattle.std.proofs.lemmas.List.{length-map}
 use Rattle.flk_exact.proofs.ListLemmas.{All-beside}
-use Rattle.flk_num.specs.Rate.{samples_per_second, sampling_interval}
+use Rattle.flk_num.specs.Rate.{sampling_interval}
 use Rattle.flk_num.specs.declared.lamp.Lamp.{Lamp}
 use Rattle.flk_num.specs.declared.rate.Rate.{Rate}
 use Rattle.flk_cert.specs.declared.coefs.Coefs.{Coefs}
@@ -19,6 +19,7 @@ use Rattle.flk_scale.specs.declared.fault.MatchFault.{MatchFault}
 use Rattle.flk_cfg.specs.declared.config.Config.{Config}
 use Rattle.flk_job.specs.Matching.{IsMatch, IsMatchFault}
 use Rattle.flk_job.specs.declared.job.Job.{Job}
+use Rattle.flk_job.specs.Times.{run_in_samples, interval_samples}
 use Rattle.flk_dat.specs.Kinds.{data_kind_number as kind_number}
 use Rattle.flk_dat.specs.Records.{DataRecord, ArePresent}
 use Rattle.flk_dat.specs.DataFile.{AreFirst, IsAccepted}
@@ -28,13 +29,13 @@ use Rattle.flk_section.specs.Filter.{FilterNumbers}
 use Rattle.flk_result.specs.Conditions.{Conditions, AreEnough}
 use Rattle.flk_result.specs.declared.result.PhaseResult.{PhaseResult}
 use Rattle.flk_report.specs.Report.{interval_count}
-use Rattle.flk_phase.specs.Phase.{conditions_of as conditions_of_phase, channel_of, column_of as column, Stands}
+use Rattle.flk_phase.specs.Phase.{conditions_of, channel_of, column_of as column, Stands}
 use Rattle.flk_phase.specs.declared.phase.Phase.{Phase}
-use Rattle.flk_top.specs.Certified.{IsAccepted as IsAcceptedSection, gains_in, IsCertifiedLamp, IsRefusedLamp, lamp_fault_number}
+use Rattle.flk_top.specs.Certified.{IsCertifiedSection, gains_in, IsCertifiedLamp, IsRefusedLamp, lamp_fault_number}
 use Rattle.flk_top.specs.Faults.{match_line, lamp_line, data_line, range_line}
 use Rattle.flk_io.specs.Told.{ShelfTold}
 use Rattle.flk_top.specs.Replies.{outcome_of, IsHonest}
-use Rattle.flk_top.specs.ReportDue.{conditions_in, AreWithin, IsFirstOverOf, AreResults, reported_outcome, job_layout, IsDueForPhases, data_fault, over_range, reported, IsDueForJob, no_match, no_filter, certified}
+use Rattle.flk_top.specs.ReportDue.{conditions_in, AreWithinRange, IsFirstOverOf, AreResults, reported_outcome, job_layout, IsDueForPhases, data_fault, over_range, reported, IsDueForJob, no_match, no_filter, certified}
 use Rattle.flk_top.specs.Told.{MayHold}
 use Rattle.flk_top.specs.Working.{IsReady, IsEndOf, HaveWorked}
 use Rattle.flk_top.specs.declared.certified.CertifiedSection.{CertifiedSection}
@@ -57,7 +58,7 @@ whole_intervals records run_in interval within =
 
 pub job_is_enough : (j : Job) (c : Config) (filter : FilterNumbers) → IsMatch j c → AreEnough (conditions_in j c filter) c.endsamp
 job_is_enough j c filter is =
-    whole_intervals c.endsamp (samples_per_second c.rate * j.run_in_s) (samples_per_second c.rate * j.interval_s) (omega (arith, is.long))
+    whole_intervals c.endsamp (run_in_samples j c.rate) (interval_samples j c.rate) (omega (arith, is.long))
 
 -- ---- the end of the phases
 
@@ -78,7 +79,7 @@ ends_count j c filter phases rs results h ends =
     (λ i d less. ((h.are_phases.each i 0 d less).conditions_are, (h.have_columns i d less).stands)) ends
   where
     Counted : Phase → Type 0
-    Counted p = (conditions_of_phase p ≡ conditions_in j c filter) × Stands p (column (channel_of p) rs)
+    Counted p = (conditions_of p ≡ conditions_in j c filter) × Stands p (column (channel_of p) rs)
 
     count_is : (p : Phase) (r : PhaseResult) → Counted p → IsEndOf p r → r.count ≡ interval_count j c.rate c.endsamp
     count_is p r is end = (end.keeps (column (channel_of p) rs) is.1).result.count_is ∙ ap (λ (k : Conditions). k.count) is.0
@@ -89,7 +90,7 @@ ends_count j c filter phases rs results h ends =
 abbrev pub IsPhasesReply : Job → Config → FilterNumbers → Option (List ℕ) → Reply → Type 0
 IsPhasesReply j c filter left r = r.status ≢ ReadFailed → (bytes : List ℕ) × MayHold left bytes × IsDueForPhases j c filter bytes (outcome_of r)
 
-pub phases_fault : {E : Type 0} (j : Job) (c : Config) (filter : FilterNumbers) (left : Option (List ℕ)) (f : DatFault) (rs : List DataRecord) (r : Result Reply E) → AreWithin j c rs
+pub phases_fault : {E : Type 0} (j : Job) (c : Config) (filter : FilterNumbers) (left : Option (List ℕ)) (f : DatFault) (rs : List DataRecord) (r : Result Reply E) → AreWithinRange j c rs
     → (bytes : List ℕ) × MayHold left bytes × EndsInFault (job_layout j c) bytes rs f
     → IfOk r (λ x. (x.status ≡ Refused) × (string_bytes x.text ≡ data_line f.row f.field f.kind)) → IfOk r (IsPhasesReply j c filter left)
 phases_fault j c filter left f rs (Ok x) within ends reply = λ fine.
@@ -137,7 +138,7 @@ some_is_told P o x is h = subst (λ (y : Option _). IfSome y P) is h
 -- ---- a job and a configuration that are accepted
 
 -- the coefficients in the bound of a certified lamp are those of its design
-accepted_coefs : (ks : List Coefs) (ss : List CertifiedSection) → AllZip IsAcceptedSection ks ss → map coefs_of (gains_in ss) ≡ ks
+accepted_coefs : (ks : List Coefs) (ss : List CertifiedSection) → AllZip IsCertifiedSection ks ss → map coefs_of (gains_in ss) ≡ ks
 accepted_coefs [] [] h = refl
 accepted_coefs [] (s ∷ ss) h = absurd h
 accepted_coefs (k ∷ ks) [] h = absurd h

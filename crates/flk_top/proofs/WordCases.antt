@@ -5,11 +5,10 @@ use Rattle.std.specs.Str.Parse.{AllDigits, digits_value}
 use Rattle.std.proofs.lemmas.Bool.{cases_lt, cases_eq}
 use Rattle.flk_field.proofs.SetCases.{same_text}
 use Rattle.flk_num.specs.declared.lamp.Lamp.{Lamp}
-use Rattle.flk_num.specs.declared.lamp.Lamp.TheVariants.{L230, L120}
 use Rattle.flk_num.specs.declared.rate.Rate.{Rate}
 use Rattle.flk_num.specs.declared.rate.Rate.TheVariants.{R2400, R4800}
 use Rattle.flk_cfg.specs.Canonical.{rate_text}
-use Rattle.flk_job.specs.Table.{lamp_name}
+use Rattle.flk_job.proofs.JobCases.{lamp_name_cases}
 use Rattle.flk_top.specs.Command.{IsNumber, IsNumberIn, word, configuration_name, data_name, IsLevels, IsCheck, AsksRate, IsTables, Asks, IsNoCommand}
 use Rattle.flk_top.specs.Command.{job_name, report_configuration_name, report_data_name, AreReportNames, IsReport}
 use Rattle.flk_top.specs.declared.command.LevelsCommand.{LevelsCommand}
@@ -110,20 +109,6 @@ check_cases words =
       ]
     ]
 
-lamp_cases : (text : List ℕ) → ((lamp : Lamp) × (text ≡ lamp_name lamp)) ⊎ ((lamp : Lamp) → text ≢ lamp_name lamp)
-lamp_cases text =
-    elim (same_text text (lamp_name L230)) [
-      | inl same ↦ inl (L230, same)
-      | inr first ↦ elim (same_text text (lamp_name L120)) [
-        | inl same ↦ inl (L120, same)
-        | inr second ↦ inr (none first second)
-      ]
-    ]
-  where
-    none : text ≢ lamp_name L230 → text ≢ lamp_name L120 → (lamp : Lamp) → text ≢ lamp_name lamp
-    none first second L230 same = first same
-    none first second L120 same = second same
-
 no_rate : (words : List (List ℕ)) → length words ≢ 2 → ((rate : Rate) → length words ≡ 3 → word words 2 ≢ rate_text rate) → (rate : Rate) → ¬ AsksRate words rate
 no_rate words two three rate (inl asks) = two asks.0
 no_rate words two three rate (inr asks) = three rate asks.0 asks.1
@@ -152,7 +137,7 @@ tables_cases : (words : List (List ℕ)) → ((lamp : Lamp) × (rate : Rate) × 
 tables_cases words =
     elim (same_text (word words 0) (codes "tables")) [
       | inr other ↦ inr (λ lamp rate is. other is.command)
-      | inl command ↦ elim (lamp_cases (word words 1)) [
+      | inl command ↦ elim (lamp_name_cases (word words 1)) [
         | inr other ↦ inr (λ lamp rate is. other lamp is.lamp_is)
         | inl lamp ↦ elim (rate_cases words) [
           | inr other ↦ inr (λ l rate is. other rate is.rate_is)

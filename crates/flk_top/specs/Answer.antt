@@ -34,8 +34,9 @@ pub data IsDue (words : List (List ℕ)) (files : Files) (o : Outcome) : Type 0 
   usage : IsNoCommand words → o ≡ refusal usage_line → IsDue words files o
   asked : (q : Command) → Asks words q → IsDueFor q (map files (inputs_of q words)) o → IsDue words files o
 
--- Input i of a command, from 0, comes to its turn: the first at once; a report's configuration once the job is accepted; the data once the
--- configuration is accepted and, for levels, has the channel to measure, for a report has what the job asks for, and the lamp is certified.
+-- Input i of a command, from 0, comes to its turn: the first at once; a report's configuration once the job is
+-- accepted; the data once the configuration is accepted and, for levels, has the channel to measure, for a report has
+-- what the job asks for, and the lamp is certified.
 abbrev pub ComesToTurn : Command → (contents : List (List ℕ)) → (i : ℕ) → Type 0
 ComesToTurn q contents zero = Unit {0}
 ComesToTurn (Levels command) (configuration ∷ contents) (suc i) =

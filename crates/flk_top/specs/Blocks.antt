@@ -27,8 +27,8 @@ fed_count b = b.fed
 abbrev pub unfed : Blocks → List ℕ
 unfed b = slice_range b.piece.items b.at b.end
 
--- Data of this layout were read: these bytes so far, of which these records came. They are all that are whole in the bytes but those
--- not yet fed.
+-- Data of this layout were read: these bytes so far, of which these records came. They are all that are whole in the
+-- bytes but those not yet fed.
 pub record HasRead (l : Layout) (b : Blocks) (bytes : List ℕ) (rs : List DataRecord) : Type 0 where
   pub fed : List ℕ
   pub bytes_are : bytes ≡ fed ++ unfed b
@@ -48,8 +48,9 @@ EndsAs Full l bytes rs = ⊥
 EndsAs Ended l bytes rs = IsAccepted l bytes rs
 EndsAs (Fault f) l bytes rs = EndsInFault l bytes rs f
 
--- What one more block tells of data of which these bytes were read and these records came, by how the reading goes on: more records may
--- follow; or the file is accepted; or it has this first fault. (left, now: what is told to be left before and after)
+-- What one more block tells of data of which these bytes were read and these records came, by how the reading goes on:
+-- more records may follow; or the file is accepted; or it has this first fault. (left, now: what is told to be left
+-- before and after)
 abbrev pub Gives : Progress → Layout → (bytes : List ℕ) → (rs : List DataRecord) → (new : Blocks)
     → (left now : Option (List ℕ)) → Type 0
 Gives Full l bytes rs new left now =
@@ -60,6 +61,7 @@ Gives Ended l bytes rs new left now =
 Gives (Fault f) l bytes rs new left now =
     (more : List ℕ) × MayHold left more × EndsInFault l (bytes ++ more) (rs ++ records_of new) f
 
--- the data begin with the records that came before and those of the block, and no value of a selected channel is missing in them
+-- the data begin with the records that came before and those of the block, and no value of a selected channel is
+-- missing in them
 abbrev pub Begins : Layout → (bytes : List ℕ) → (rs : List DataRecord) → (left : Option (List ℕ)) → Type 0
 Begins l bytes rs left = (more : List ℕ) × MayHold left more × AreFirst l (bytes ++ more) rs × ArePresent l rs

@@ -23,7 +23,7 @@ use Rattle.flk_top.specs.declared.certified.LampFault.TheVariants.{Section, Casc
 -- ---- a section
 
 -- the certificate that is made for the section is accepted, shows this gain, and has so many rows
-pub record IsAccepted (k : Coefs) (s : CertifiedSection) : Type 0 where
+pub record IsCertifiedSection (k : Coefs) (s : CertifiedSection) : Type 0 where
   pub certificate : IsCertified k s.gain
   pub fits : FitsSection k certificate.rows
   pub count : s.rows ≡ length certificate.rows
@@ -56,13 +56,14 @@ pub record IsBounded (gains : List Gain) : Type 0 where
 pub record IsCertifiedLamp (lamp : Lamp) (rate : Rate) (ss : List CertifiedSection) : Type 0 where
   pub sections : List Coefs
   pub design : IsDesign (sampling_interval rate) (constants_of lamp) sections
-  pub accepted : AllZip IsAccepted sections ss
+  pub accepted : AllZip IsCertifiedSection sections ss
   pub bounded : IsBounded (gains_in ss)
 
 -- the first that fails for sections: the certificate of one of them, or else what is asked of all their gains
 abbrev pub FailsAt : List Coefs → LampFault → Type 0
 FailsAt sections (Section n) = (i : ℕ) × (n ≡ i + 1) × IsFirstRefused sections i
-FailsAt sections Cascade = (ss : List CertifiedSection) × AllZip IsAccepted sections ss × (¬ IsBounded (gains_in ss))
+FailsAt sections Cascade =
+    (ss : List CertifiedSection) × AllZip IsCertifiedSection sections ss × (¬ IsBounded (gains_in ss))
 
 -- the lamp isn't certified at the rate, for this reason
 pub record IsRefusedLamp (lamp : Lamp) (rate : Rate) (fault : LampFault) : Type 0 where

@@ -10,7 +10,8 @@ use Rattle.flk_top.specs.Faults.{data_line}
 use Rattle.flk_top.specs.Outcome.{Outcome, completed, refusal}
 use Rattle.flk_top.specs.Text.{check_text}
 
--- What is due for the data of a configuration, of which no channel is selected. The premises of the two rows exclude each other.
+-- What is due for the data of a configuration, of which no channel is selected. The premises of the two rows exclude
+-- each other.
 pub data IsDueForSummary (c : Config) (bytes : List ℕ) (o : Outcome) : Type 0 where
   file_fault : (rs : List DataRecord) (field : ℕ) (kind : Kind) → IsFaultAfter (layout_of c []) bytes rs field kind
       → o ≡ refusal (data_line (length rs + 1) field (kind_number kind)) → IsDueForSummary c bytes o

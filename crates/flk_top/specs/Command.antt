@@ -1,5 +1,5 @@
--- The words of the commands `levels CFG DAT CHANNEL NOMINAL_MV UNCERTAINTY_UV`, `check CFG DAT`, `tables LAMP [RATE]` and
--- `report JOB CFG DAT WORKERS`, and which files each reads and adds to.
+-- The words of the commands `levels CFG DAT CHANNEL NOMINAL_MV UNCERTAINTY_UV`, `check CFG DAT`, `tables LAMP [RATE]`
+-- and `report JOB CFG DAT WORKERS`, and which files each reads and adds to.
 use Rattle.std.specs.Prelude.{◌≡◌, ◌≢◌, ◌⊎◌, ℕ, ◌*◌, ◌≤◌, List, [], ◌∷◌, Contains, length, slice_index_or, codes}
 use Rattle.std.specs.Str.Parse.{IsNumeral, digits_value}
 use Rattle.flk_num.specs.declared.lamp.Lamp.{Lamp}
@@ -31,8 +31,8 @@ configuration_name words = word words 1
 abbrev pub data_name : List (List ℕ) → List ℕ
 data_name words = word words 2
 
--- The words have the shape of `levels`, with this channel (from 1), nominal voltage in millivolts and uncertainty in microvolts,
--- which is at most a hundredth of nominal. The two file names differ.
+-- The words have the shape of `levels`, with this channel (from 1), nominal voltage in millivolts and uncertainty in
+-- microvolts, which is at most a hundredth of nominal. The two file names differ.
 pub record IsLevels (words : List (List ℕ)) (channel nominal uncertainty : ℕ) : Type 0 where
   pub count : length words ≡ 6
   pub command : word words 0 ≡ codes "levels"
@@ -47,7 +47,8 @@ pub record IsCheck (words : List (List ℕ)) : Type 0 where
   pub command : word words 0 ≡ codes "check"
   pub names : configuration_name words ≢ data_name words
 
--- no word stands for the rate of 2400 samples a second, and the word of a rate, as a configuration writes it, for that rate
+-- no word stands for the rate of 2400 samples a second, and the word of a rate, as a configuration writes it, for
+-- that rate
 abbrev pub AsksRate : List (List ℕ) → Rate → Type 0
 AsksRate words rate = ((length words ≡ 2) × (rate ≡ R2400)) ⊎ ((length words ≡ 3) × (word words 2 ≡ rate_text rate))
 

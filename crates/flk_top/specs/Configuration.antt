@@ -16,7 +16,8 @@ pub record IsConfiguration (bytes : List ℕ) (c : Config) : Type 0 where
   pub small : length bytes ≤ configuration_limit
   pub writes : IsConfig bytes c
 
--- The bytes are no configuration, and this is the line of their first fault. The premises of the two rows exclude each other.
+-- The bytes are no configuration, and this is the line of their first fault. The premises of the two rows exclude each
+-- other.
 pub data IsConfigurationFault (bytes : List ℕ) (line : List ℕ) : Type 0 where
   too_long : configuration_limit < length bytes → line ≡ configuration_line 0 0 (kind_number Length)
       → IsConfigurationFault bytes line

@@ -1,4 +1,5 @@
--- The levels of a recording: how many half-periods it has, and intervals that hold the least and the greatest of their values.
+-- The levels of a recording: how many half-periods it has, and intervals that hold the least and the greatest of their
+-- values.
 use Rattle.std.specs.Prelude.{◌≡◌, ℕ, ◌+◌, ◌*◌, List, [], ◌∷◌, ◌++◌, length, map, Option, Some, None, ℤ, pos, ◌≤ℤ◌}
 use Rattle.std.specs.List.{AllZip}
 use Rattle.flk_exact.specs.Fraction.{Fraction}
@@ -16,10 +17,10 @@ use Rattle.flk_top.specs.declared.measure.Extremes.{Extremes}
 
 -- The recorded voltages are in microvolts, in the order of time, one for each sample.
 
--- The interval holds the least (or the greatest) half-period value of every exact run whose voltages lie within the uncertainty of
--- the recorded ones. (nominal in millivolts, uncertainty in microvolts)
-abbrev pub HoldsEveryRun : (List ℤ → ℤ → Type 0) → ℕ → ℕ → ℕ → List Fraction → List ℕ → Interval → Type 0
-HoldsEveryRun IsExtreme half nominal uncertainty recorded cuts v =
+-- The interval holds the least (or the greatest) half-period value of every exact run whose voltages lie within the
+-- uncertainty of the recorded ones. (nominal in millivolts, uncertainty in microvolts)
+abbrev pub HoldsEveryExtreme : (List ℤ → ℤ → Type 0) → ℕ → ℕ → ℕ → List Fraction → List ℕ → Interval → Type 0
+HoldsEveryExtreme IsExtreme half nominal uncertainty recorded cuts v =
     (run : List Fraction) (values : List ℤ) (m : ℤ) → IsAdmittedRun (1000 * nominal) uncertainty recorded run
     → AreHalfPeriodValues half cuts run values → IsExtreme values m → IsBetween v.lo v.hi m
 
@@ -54,12 +55,12 @@ Gains old None new = new ≡ old
 Gains old (Some v) new =
     (new.count ≡ old.count + 1) × (e : Extremes) × (new.extremes ≡ Some e) × Widens old.extremes v e
 
--- What the two intervals promise. They hold every run, keep the width and are of natural numbers; and their ends are those of the
--- recorded voltages' own intervals, so that the recorded voltages have one such pair.
+-- What the two intervals promise. They hold every run, keep the width and are of natural numbers; and their ends are
+-- those of the recorded voltages' own intervals, so that the recorded voltages have one such pair.
 pub record AreExtremes (half nominal uncertainty : ℕ) (recorded : List Fraction) (cuts : List ℕ)
     (e : Extremes) : Type 0 where
-  pub least_holds : HoldsEveryRun IsLeast half nominal uncertainty recorded cuts e.least
-  pub greatest_holds : HoldsEveryRun IsGreatest half nominal uncertainty recorded cuts e.greatest
+  pub least_holds : HoldsEveryExtreme IsLeast half nominal uncertainty recorded cuts e.least
+  pub greatest_holds : HoldsEveryExtreme IsGreatest half nominal uncertainty recorded cuts e.greatest
   pub least_width : KeepsWidth nominal uncertainty e.least
   pub greatest_width : KeepsWidth nominal uncertainty e.greatest
   pub least_natural : pos 0 ≤ℤ e.least.lo
@@ -77,7 +78,8 @@ AreExtremesIfAny half nominal uncertainty recorded cuts None = length cuts ≡ 0
 AreExtremesIfAny half nominal uncertainty recorded cuts (Some e) = AreExtremes half nominal uncertainty recorded cuts e
 
 -- the levels of these recorded voltages, with so many samples in half a nominal period
-pub record AreLevels (half nominal uncertainty : ℕ) (recorded : List Fraction) (levels : Levels) : Type 0 where
+pub record AreHalfPeriodLevels (half nominal uncertainty : ℕ) (recorded : List Fraction)
+    (levels : Levels) : Type 0 where
   pub cuts : List ℕ
   pub are_cuts : AreCuts half (map is_below_zero recorded) cuts
   pub count : levels.count ≡ length cuts

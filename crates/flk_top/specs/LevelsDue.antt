@@ -1,4 +1,5 @@
--- What `levels` answers: the first fault of the configuration, of its match or of the data, or the levels of the recording.
+-- What `levels` answers: the first fault of the configuration, of its match or of the data, or the levels of the
+-- recording.
 use Rattle.std.specs.Prelude.{◌≡◌, ℕ, ◌+◌, List, [], ◌∷◌, length}
 use Rattle.flk_num.specs.Rate.{half_at}
 use Rattle.flk_num.specs.declared.lamp.Lamp.{Lamp}
@@ -11,17 +12,17 @@ use Rattle.flk_dat.specs.declared.kind.Kind.{Kind}
 use Rattle.flk_top.specs.Configuration.{IsConfiguration, IsConfigurationFault}
 use Rattle.flk_top.specs.Faults.{match_line, data_line, range_line}
 use Rattle.flk_scale.specs.Range.{IsFirstOver, IsWithinRange}
-use Rattle.flk_top.specs.Levels.{AreLevels}
-use Rattle.flk_top.specs.Matching.{Matches, IsMatchFault, recorded_voltages}
+use Rattle.flk_top.specs.Levels.{AreHalfPeriodLevels}
+use Rattle.flk_top.specs.Matching.{Matches, IsChannelMatchFault, recorded_voltages}
 use Rattle.flk_top.specs.Outcome.{Outcome, completed, refusal}
 use Rattle.flk_top.specs.Text.{levels_text}
 use Rattle.flk_top.specs.declared.command.LevelsCommand.{LevelsCommand}
 use Rattle.flk_scale.specs.declared.fault.MatchFault.{MatchFault}
 use Rattle.flk_top.specs.declared.measure.Levels.{Levels}
 
--- What is due for the data of a channel that can be measured. The record with the least number is named, and in a record its own form
--- comes before its voltage. The premises of the three rows exclude each other.
--- (nominal in millivolts, uncertainty in microvolts)
+-- What is due for the data of a channel that can be measured. The record with the least number is named, and in a
+-- record its own form comes before its voltage. The premises of the three rows exclude each other. (nominal in
+-- millivolts, uncertainty in microvolts)
 pub data IsDueForRecording (channel nominal uncertainty : ℕ) (c : Config) (a : Analog) (lamp : Lamp)
     (bytes : List ℕ) (o : Outcome) : Type 0 where
   data_fault : (rs : List DataRecord) (field : ℕ) (kind : Kind)
@@ -35,7 +36,7 @@ pub data IsDueForRecording (channel nominal uncertainty : ℕ) (c : Config) (a :
       → IsDueForRecording channel nominal uncertainty c a lamp bytes o
   measured : (rs : List DataRecord) (levels : Levels) → IsAccepted (layout_of c (channel ∷ [])) bytes rs
       → IsWithinRange nominal (recorded_voltages a channel rs)
-      → AreLevels (half_at lamp c.rate) nominal uncertainty (recorded_voltages a channel rs) levels
+      → AreHalfPeriodLevels (half_at lamp c.rate) nominal uncertainty (recorded_voltages a channel rs) levels
       → o ≡ completed (levels_text channel levels)
       → IsDueForRecording channel nominal uncertainty c a lamp bytes o
 
@@ -43,8 +44,8 @@ pub data IsDueForRecording (channel nominal uncertainty : ℕ) (c : Config) (a :
 pub data IsDueForLevels (command : LevelsCommand) (configuration bytes : List ℕ) (o : Outcome) : Type 0 where
   no_configuration : (line : List ℕ) → IsConfigurationFault configuration line → o ≡ refusal line
       → IsDueForLevels command configuration bytes o
-  no_match : (c : Config) (fault : MatchFault) → IsConfiguration configuration c → IsMatchFault c command.channel fault
-      → o ≡ refusal (match_line fault)
+  no_match : (c : Config) (fault : MatchFault) → IsConfiguration configuration c
+      → IsChannelMatchFault c command.channel fault → o ≡ refusal (match_line fault)
       → IsDueForLevels command configuration bytes o
   matched : (c : Config) (a : Analog) (lamp : Lamp) → IsConfiguration configuration c → Matches c command.channel a lamp
       → IsDueForRecording command.channel command.supply.nominal_mv command.supply.uncertainty_uv c a lamp bytes o

@@ -1,4 +1,5 @@
--- Which channels of a configuration `levels` can measure, and the voltages that they record. A channel's number counts from 1.
+-- Which channels of a configuration `levels` can measure, and the voltages that they record. A channel's number counts
+-- from 1.
 use Rattle.std.specs.Prelude.{◌⊎◌, ℕ, ◌-◌, List, map, slice_index_or, ℤ, pos}
 use Rattle.flk_exact.specs.Fraction.{Fraction}
 use Rattle.flk_num.specs.declared.lamp.Lamp.{Lamp}
@@ -18,8 +19,8 @@ pub record Matches (c : Config) (channel : ℕ) (a : Analog) (lamp : Lamp) : Typ
   pub frequency : IsFrequencyOf lamp c.lf.n
 
 -- the first test that fails: those of the channel come before that of the line frequency
-abbrev pub IsMatchFault : Config → ℕ → MatchFault → Type 0
-IsMatchFault c channel f = IsChannelFault c channel f ⊎ (CanBeMeasured c channel × IsFrequencyFault c.lf f)
+abbrev pub IsChannelMatchFault : Config → ℕ → MatchFault → Type 0
+IsChannelMatchFault c channel f = IsChannelFault c channel f ⊎ (CanBeMeasured c channel × IsFrequencyFault c.lf f)
 
 -- the sample of a channel in a record
 abbrev pub sample_of : ℕ → DataRecord → ℤ

@@ -26,8 +26,8 @@ told_voltage m r = voltage_of m.matched.scale (slice_index_or r.analog m.channel
 abbrev pub half_of : Matched → ℕ
 half_of m = half_at m.lamp m.rate
 
--- The state stands for these recorded voltages, none of which is over range: the cutter stands for their signs and intervals, whose
--- half-periods have so many intervals with these extremes.
+-- The state stands for these recorded voltages, none of which is over range: the cutter stands for their signs and
+-- intervals, whose half-periods have so many intervals with these extremes.
 pub record HasMeasured (m : Measure) (recorded : List Fraction) : Type 0 where
   pub voltages : List Interval
   pub intervals : List Interval

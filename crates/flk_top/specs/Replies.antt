@@ -16,7 +16,8 @@ use Rattle.flk_top.specs.declared.reply.Status.TheVariants.{ReadFailed}
 abbrev pub outcome_of : Reply → Outcome
 outcome_of r = record { status = status_number r.status; text = string_bytes r.text; pieces = [] }
 
--- Unless it tells of a failed read, the reply is due for some contents of the inputs, which are those told where they are told.
+-- Unless it tells of a failed read, the reply is due for some contents of the inputs, which are those told where they
+-- are told.
 abbrev pub IsExplained : Command → (names : List (List ℕ)) → ShelfTold → Reply → Type 0
 IsExplained q names told r =
     r.status ≢ ReadFailed

@@ -1,5 +1,5 @@
--- What a run of the program leaves, by its status. `old` and `new` are what the shelf tells at entry and at the end, `was` and `is` what
--- the sink tells.
+-- What a run of the program leaves, by its status. `old` and `new` are what the shelf tells at entry and at the end,
+-- `was` and `is` what the sink tells.
 use Rattle.std.specs.Prelude.{◌≡◌, ◌≢◌, ℕ, ◌<◌, ◌≤◌, List, [], length, map, slice_index_or}
 use Rattle.std.specs.Io.KnownBytes.{Appends}
 use Rattle.flk_io.specs.Causes.{Rose, AddsFront}
@@ -17,8 +17,8 @@ pub record IsDone (o : Outcome) (result : ℕ) (old new : ShelfTold) (was is : S
   pub text : Appends was.written is.written o.text
   pub pieces : AreAppended old.added new.added o.pieces
 
--- The outcome was cut off: a read failed (4), an append failed, the text's write failed, a read failed and then the write of its line
--- (5), or memory was short (6).
+-- The outcome was cut off: a read failed (4), an append failed, the text's write failed, a read failed and then the
+-- write of its line (5), or memory was short (6).
 pub data IsCut (words : List (List ℕ)) (o : Outcome) (result : ℕ)
     (old new : ShelfTold) (was is : SinkTold) : Type 0 where
   read : (name : List ℕ) → IsInput words name → result ≡ 4 → Rose old.read_faults new.read_faults
@@ -48,7 +48,8 @@ pub record IsCounted (result : ℕ) (old new : ShelfTold) (was is : SinkTold) : 
   pub append_failed : old.append_faults < new.append_faults → result ≡ 5
   pub write_failed : was.faults < is.faults → result ≡ 5
 
--- Only inputs of the words are read, and only outputs are appended to; no read fails without an input, nor an append without an output.
+-- Only inputs of the words are read, and only outputs are appended to; no read fails without an input, nor an append
+-- without an output.
 pub record IsConfined (words : List (List ℕ)) (old new : ShelfTold) : Type 0 where
   pub left : (name : List ℕ) → ¬ IsInput words name → new.left name ≡ old.left name
   pub added : (name : List ℕ) → ¬ IsOutput words name → new.added name ≡ old.added name

@@ -16,7 +16,7 @@ use Rattle.flk_phase.specs.Phase.{conditions_of, scale_of, channel_of, over_of, 
 use Rattle.flk_phase.specs.Phase.{column_of, told_by, Stands}
 use Rattle.flk_phase.specs.Taking.{IsMadeAlike, IsSamePhase}
 use Rattle.flk_phase.specs.declared.phase.Phase.{Phase}
-use Rattle.flk_top.specs.ReportDue.{conditions_in, AreWithin, IsFirstOverOf}
+use Rattle.flk_top.specs.ReportDue.{conditions_in, AreWithinRange, IsFirstOverOf}
 
 -- ---- one phase
 
@@ -34,7 +34,8 @@ pub record HasColumn (p : Phase) (rs : List DataRecord) : Type 0 where
   pub not_over : over_of p ≡ None
   pub taken : taken_of p ≡ length rs
 
--- The phase has taken these samples more, where no sample was over range before: up to the first one over range, where there is one.
+-- The phase has taken these samples more, where no sample was over range before: up to the first one over range, where
+-- there is one.
 pub record TakesSamples (old new : Phase) (xs : List ℤ) : Type 0 where
   pub alike : IsMadeAlike old new
   pub within : over_of old ≡ None → IsWithinRange (nominal_of (scale_of old)) (told_by (scale_of old) xs)
@@ -75,7 +76,7 @@ pub record HaveWorked (j : Job) (c : Config) (filter : FilterNumbers) (phases : 
     (rs : List DataRecord) : Type 0 where
   pub are_phases : ArePhasesOf j c filter phases
   pub have_columns : HaveColumns phases rs
-  pub within : AreWithin j c rs
+  pub within : AreWithinRange j c rs
 
 -- each phase has room for so many samples
 pub record AreReserved (samples : ℕ) (old new : List Phase) : Type 0 where
@@ -86,7 +87,8 @@ pub record AreReserved (samples : ℕ) (old new : List Phase) : Type 0 where
 pub record TakeRecords (old new : List Phase) (more : List DataRecord) : Type 0 where
   pub count : length new ≡ length old
   pub each : (i : ℕ) (d : Phase) → i < length old
-      → TakesSamples (slice_index_or old i d) (slice_index_or new i d) (column_of (channel_of (slice_index_or old i d)) more)
+      → TakesSamples (slice_index_or old i d) (slice_index_or new i d)
+      (column_of (channel_of (slice_index_or old i d)) more)
 
 -- ---- a sample over range
 
@@ -94,8 +96,8 @@ pub record TakeRecords (old new : List Phase) (more : List DataRecord) : Type 0 
 abbrev pub NoneIsOver : List Phase → (n : ℕ) → Type 0
 NoneIsOver phases n = (i : ℕ) (d : Phase) → i < n → over_of (slice_index_or phases i d) ≡ None
 
--- Of the first so many phases the one at this turn, from 0, has a sample over range in this record, from 1: none of them has one in a lesser
--- record, and none before it in the same one.
+-- Of the first so many phases the one at this turn, from 0, has a sample over range in this record, from 1: none of
+-- them has one in a lesser record, and none before it in the same one.
 pub record IsFirstPhaseOver (phases : List Phase) (n number turn : ℕ) : Type 0 where
   pub there : turn < n
   pub over : (d : Phase) → over_of (slice_index_or phases turn d) ≡ Some number
@@ -120,7 +122,8 @@ pub record CanWork (phases : List Phase) (b : Rows) : Type 0 where
   pub columns : b.analog ≡ length configuration.analog
   pub few : length records + length b.records < 2 ^ 32
 
--- In this record, from 1, a channel of the job is over range, and the first such channel has this place in the job, from 0.
+-- In this record, from 1, a channel of the job is over range, and the first such channel has this place in the job,
+-- from 0.
 pub record IsOverTold (j : Job) (c : Config) (rs : List DataRecord) (number turn : ℕ) : Type 0 where
   pub some : 1 ≤ number
   pub there : turn < length j.channels

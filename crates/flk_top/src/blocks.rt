@@ -46,8 +46,8 @@ pub struct Blocks {
 }
 
 impl Blocks {
-    /// Nothing is read yet of the data of a configuration. The numbers of `selected` are those of the channels, from 1, in which a
-    /// missing value is a fault. All memory is taken here.
+    /// Nothing is read yet of the data of a configuration. The numbers of `selected` are those of the channels, from 1,
+    /// in which a missing value is a fault. All memory is taken here.
     pub fn new(alloc: Global, config: &Config, selected: &[u16]) -> Result<Blocks, OutOfMemory>
         requires { IsValid config.now }
         ensures nothing { IfOk result (λ b. HasRead (layout_of config.now selected.now) b [] []) }
@@ -63,8 +63,8 @@ impl Blocks {
         })
     }
 
-    /// Lets go of the records of the block, and fills it again: until it is full, or the file under this name has ended, or has a fault.
-    /// After an error nothing is known of the block. It takes no memory.
+    /// Lets go of the records of the block, and fills it again: until it is full, or the file under this name has
+    /// ended, or has a fault. After an error nothing is known of the block. It takes no memory.
     pub fn next<F: Shelf>(&mut self, shelf: &mut F, name: &str) -> Result<Progress, Failed>
         requires { (l : Layout) × (bytes : List ℕ) × (rs : List DataRecord) × HasRead l self.old bytes rs }
         ensures gives { IfOk result (λ p. (l : Layout) (bytes : List ℕ) (rs : List DataRecord)

@@ -216,8 +216,8 @@ const LONG: &str =
 
 const LONG_SUMMARY: &str = "check\nanalog 1 digital 0\nrecords 72000\nfirst 1\nform BINARY\n";
 
-// Whether the command is answered so over these 72,000 records, which are more than one block, where a read gives 99 bytes, and where
-// it gives as many as it is asked for.
+// Whether the command is answered so over these 72,000 records, which are more than one block, where a read gives 99
+// bytes, and where it gives as many as it is asked for.
 fn is_answered_over<R: Threads + Sync>(
     rt: &R,
     alloc: Global,

@@ -4,7 +4,7 @@ ghost use Rattle.std.specs.Prelude.{◌≡◌, length, IfOk, IfErr, IfSome, IfNo
 ghost use Rattle.std.specs.List.{AllZip};
 ghost use Rattle.flk_num.specs.Stop.{StopIs};
 ghost use Rattle.flk_section.specs.Whole.{IsWholeOf};
-ghost use Rattle.flk_top.specs.Certified.{IsAccepted, IsRefused, FailsAt, gains_in, IsBounded};
+ghost use Rattle.flk_top.specs.Certified.{IsCertifiedSection, IsRefused, FailsAt, gains_in, IsBounded};
 ghost use Rattle.flk_top.specs.Certified.{IsCertifiedLamp, IsRefusedLamp, lamp_fault_number};
 
 use flk_cert::{Coefs, Gain, check, make};
@@ -55,7 +55,7 @@ impl LampFault {
 
 // Makes the certificate of a section and checks it; None exactly where it is refused.
 fn certify(alloc: Global, k: &Coefs) -> Result<Option<CertifiedSection>, OutOfMemory>
-    ensures some { IfOk result (λ o. IfSome o (IsAccepted k.now)) }
+    ensures some { IfOk result (λ o. IfSome o (IsCertifiedSection k.now)) }
     ensures none { IfOk result (λ o. IfNone o (IsRefused k.now)) }
 {
     let cert = make(alloc, k)?;
@@ -73,7 +73,7 @@ fn certify_sections(
     alloc: Global,
     sections: &[Coefs; 7],
 ) -> Result<Vec<CertifiedSection>, Stop<LampFault>>
-    ensures accepted { IfOk result (λ found. AllZip IsAccepted sections.now found.items) }
+    ensures accepted { IfOk result (λ found. AllZip IsCertifiedSection sections.now found.items) }
     ensures refused { IfErr result (StopIs (FailsAt sections.now)) }
 {
     let mut found = Vec::new(alloc);
@@ -110,8 +110,9 @@ fn bounded(gains: &[Gain; 7]) -> Option<Whole>
     if fits(gains) { whole_of(gains) } else { None }
 }
 
-/// Certifies the seven sections of a lamp's filter at a sampling rate, and bounds the cascade of them. What stops is the least section
-/// whose certificate is refused, or, where all are accepted, that no cascade can be made with their gains or there is no bound of it.
+/// Certifies the seven sections of a lamp's filter at a sampling rate, and bounds the cascade of them. What stops is
+/// the least section whose certificate is refused, or, where all are accepted, that no cascade can be made with their
+/// gains or there is no bound of it.
 pub fn certify_lamp(alloc: Global, lamp: Lamp, rate: Rate) -> Result<CertifiedLamp, Stop<LampFault>>
     ensures certified { IfOk result (λ found. IsCertifiedLamp lamp rate found.sections.items
         × IsWholeOf (gains_in found.sections.items) found.whole) }

@@ -20,7 +20,8 @@ pub fn words_ask_one_command()
     ensures { (words : List (List ℕ)) (p q : CommandView) → Asks words p → Asks words q → p ≡ q }
 {}
 
-/// Whatever the words and the files are, no two outcomes are due: the status is one, and the text is one to its last digit.
+/// Whatever the words and the files are, no two outcomes are due: the status is one, and the text is one to its last
+/// digit.
 pub fn answer_is_one()
     ensures { (words : List (List ℕ)) (files : Files) (o p : Outcome)
         → IsDue words files o → IsDue words files p → o ≡ p }
@@ -38,9 +39,10 @@ pub fn inputs_decide()
         → (o : Outcome) → IsDue words files o → IsDue words others o }
 {}
 
-/// The promise on every exact run speaks of some run. For each list of cuts that is not empty there is a run that the recorded voltages
-/// admit, whatever the uncertainty, and its half-periods have values, of which one is the least and one the greatest. (`nominal` is in
-/// millivolts, `uncertainty` and the voltages are in microvolts, and `half` counts the samples of half a nominal period.)
+/// The promise on every exact run speaks of some run. For each list of cuts that is not empty there is a run that the
+/// recorded voltages admit, whatever the uncertainty, and its half-periods have values, of which one is the least and
+/// one the greatest. (`nominal` is in millivolts, `uncertainty` and the voltages are in microvolts, and `half` counts
+/// the samples of half a nominal period.)
 pub fn promise_is_not_empty()
     ensures { (half nominal uncertainty : ℕ) (recorded : List Fraction) (cuts : List ℕ)
         → 0 < half → 0 < nominal → 0 < length cuts
@@ -49,8 +51,8 @@ pub fn promise_is_not_empty()
         × AreHalfPeriodValues half cuts run values × IsLeast values least × IsGreatest values greatest }
 {}
 
-/// The promise on a report speaks of some run: whatever files are accepted, each channel has an exact run that its recorded voltages admit,
-/// and that has quantities.
+/// The promise on a report speaks of some run: whatever files are accepted, each channel has an exact run that its
+/// recorded voltages admit, and that has quantities.
 pub fn report_promise_is_not_empty()
     ensures { (words : List (List ℕ)) (files : Files) (m : ReportedRecording) → AreAcceptedForReport words files m
         → (qs : List RunQuantities) × AreOfRuns m qs }

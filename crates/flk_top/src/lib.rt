@@ -1,17 +1,18 @@
 //! The program's top call: from the words of the command line to a status and a text.
 //!
-//! The words are those of a command (`command`), which `answer` calls. Each command is one module, and what it answers is one relation:
-//! `report` (`specs/ReportDue`), `levels` (`specs/LevelsDue`), `check` (`specs/CheckDue`) and `tables` (`specs/Tables`); `specs/Answer` is
-//! their table. `report` reads a job first (`job`). A command reads its configuration (`configuration`) and then its data, in pieces and blocks
-//! of records (`blocks`). `report` has one phase for each channel of the job, and all take each block, in threads (`phases`). `levels` finds
-//! how its channel is measured (`matching`), turns each sample into the interval of its voltages by the channel's scale, and keeps the least
-//! and the greatest value (`measure`) of the half-periods into which `flk_half` cuts them. `tables` reads nothing: it makes the
-//! certificates of a lamp's sections, and bounds the sections in a row (`certified`). The answer is composed whole (`text`, `faults`,
-//! `reply`) before `run` writes it.
+//! The words are those of a command (`command`), which `answer` calls. Each command is one module, and what it answers
+//! is one relation: `report` (`specs/ReportDue`), `levels` (`specs/LevelsDue`), `check` (`specs/CheckDue`) and `tables`
+//! (`specs/Tables`); `specs/Answer` is their table. `report` reads a job first (`job`). A command reads its
+//! configuration (`configuration`) and then its data, in pieces and blocks of records (`blocks`). `report` has one
+//! phase for each channel of the job, and all take each block, in threads (`phases`). `levels` finds how its channel is
+//! measured (`matching`), turns each sample into the interval of its voltages by the channel's scale, and keeps the
+//! least and the greatest value (`measure`) of the half-periods into which `flk_half` cuts them. `tables` reads
+//! nothing: it makes the certificates of a lamp's sections, and bounds the sections in a row (`certified`). The answer
+//! is composed whole (`text`, `faults`, `reply`) before `run` writes it.
 //!
-//! What is promised of a run, whatever its command is, stands in `specs/Run`: what is written is due for some files that agree with all
-//! that is told of them. That some answer is due, and one alone, and that the promises on levels and on a report speak of some run, are laws
-//! (`laws`).
+//! What is promised of a run, whatever its command is, stands in `specs/Run`: what is written is due for some files
+//! that agree with all that is told of them. That some answer is due, and one alone, and that the promises on levels
+//! and on a report speak of some run, are laws (`laws`).
 #![tactic(auto)]
 
 ghost use Rattle.std.specs.Prelude.{◌≡◌, ℕ, ◌<◌, ◌≤◌, List, true};
@@ -67,11 +68,12 @@ pub const OUT_OF_MEMORY: u8 = 6;
 
 /// Runs the command that `words` name (those after the program's name), and answers the status.
 ///
-/// It reads the command's files from `shelf`, composes the whole text, and then writes it to `sink`. The status is 0 where the text
-/// is that of the command, or a report whose verdict is pass; 1 or 3 where it is a report whose verdict is fail or undecided; 2 where it is one
-/// fault line, 4 where a read failed (the line `fault read`), 5 where a write failed, and 6 where no memory was found, which writes nothing.
-/// A report works its channels in threads of `rt`, and calls `gate` as it begins to work a channel's samples of a block, with the channel's
-/// place in the job, from 0. No other command uses the two.
+/// It reads the command's files from `shelf`, composes the whole text, and then writes it to `sink`. The status is 0
+/// where the text is that of the command, or a report whose verdict is pass; 1 or 3 where it is a report whose verdict
+/// is fail or undecided; 2 where it is one fault line, 4 where a read failed (the line `fault read`), 5 where a write
+/// failed, and 6 where no memory was found, which writes nothing. A report works its channels in threads of `rt`, and
+/// calls `gate` as it begins to work a channel's samples of a block, with the channel's place in the job, from 0. No
+/// other command uses the two.
 pub fn run<R: Threads + Sync, F: Shelf, K: Sink, G: Gate + Sync>(
     rt: &R,
     alloc: Global,
@@ -98,13 +100,15 @@ pub fn run<R: Threads + Sync, F: Shelf, K: Sink, G: Gate + Sync>(
     ensures names { IsConfined words.now (F.told shelf.old) (F.told shelf.new) }
     ensures turn { ReadsInTurn words.now (F.told shelf.old) (F.told shelf.new) }
 
-    // Files that are accepted: their levels are told, with intervals that hold every exact run and keep the stated width.
+    // Files that are accepted: their levels are told, with intervals that hold every exact run and keep the stated
+    // width.
     ensures levels { result < 4 → (files : List ℕ → List ℕ) → TellsInputs words.now (F.told shelf.old) files
         → (m : MeasuredRecording) → AreAccepted words.now files m
         → (text : List ℕ) × TellsLevels m result text
         × Appends (K.told sink.old).written (K.told sink.new).written text }
 
-    // Files that are accepted for a report: it is told, with intervals that hold every exact run of all channels, and verdicts on every one.
+    // Files that are accepted for a report: it is told, with intervals that hold every exact run of all channels, and
+    // verdicts on every one.
     ensures report { result < 4 → (files : List ℕ → List ℕ) → TellsInputs words.now (F.told shelf.old) files
         → (m : ReportedRecording) → AreAcceptedForReport words.now files m
         → (text : List ℕ) × TellsReport m result text

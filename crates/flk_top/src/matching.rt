@@ -3,7 +3,7 @@
 ghost use Rattle.std.specs.Prelude.{◌≡◌, ◌≤◌, IfOk, IfErr};
 ghost use Rattle.flk_cfg.specs.declared.config.Analog.{Analog as AnalogView};
 ghost use Rattle.flk_scale.specs.Scale.{IsScaleOf};
-ghost use Rattle.flk_top.specs.Matching.{Matches, IsMatchFault};
+ghost use Rattle.flk_top.specs.Matching.{Matches, IsChannelMatchFault};
 
 use flk_cfg::Config;
 use flk_num::{Lamp, Rate};
@@ -24,7 +24,7 @@ pub fn match_levels(channel: u16, supply: &Supply, config: &Config) -> Result<Ma
     requires { 1 ≤ channel }
     ensures matched { IfOk result (λ m. (a : AnalogView) × Matches config.now channel a m.lamp
         × IsScaleOf a supply.now m.scale × (m.rate ≡ config.now.rate)) }
-    ensures fault { IfErr result (IsMatchFault config.now channel) }
+    ensures fault { IfErr result (IsChannelMatchFault config.now channel) }
 {
     let scale = match match_channel(channel, supply, config) {
         Ok(scale) => scale,

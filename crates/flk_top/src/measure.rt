@@ -6,7 +6,7 @@ ghost use Rattle.flk_exact.specs.Fraction.{Fraction};
 ghost use Rattle.flk_scale.specs.Voltage.{IsOverRange};
 ghost use Rattle.flk_scale.specs.Scale.{voltage_of, nominal_of, uncertainty_of};
 ghost use Rattle.flk_scale.specs.Range.{IsFirstOver};
-ghost use Rattle.flk_top.specs.Levels.{AreLevels, Widens, Gains};
+ghost use Rattle.flk_top.specs.Levels.{AreHalfPeriodLevels, Widens, Gains};
 
 use crate::matching::Matched;
 use flk_dat::Block;
@@ -14,8 +14,8 @@ use flk_half::Cutter;
 use flk_num::Interval;
 use flk_scale::OverRange;
 
-/// The least and the greatest half-period value of a recording, each as the interval in billionths of nominal that holds it for every
-/// run of exact voltages within the uncertainty.
+/// The least and the greatest half-period value of a recording, each as the interval in billionths of nominal that
+/// holds it for every run of exact voltages within the uncertainty.
 #[derive(Clone, Copy, Debug)]
 pub struct Extremes {
     pub least: Interval,
@@ -119,7 +119,7 @@ impl Measure {
     pub fn levels(&self) -> Levels
         requires { 0 < nominal_of self.now.matched.scale }
         ensures { (recorded : List Fraction) → HasMeasured self.now recorded
-            → AreLevels (half_of self.now.matched) (nominal_of self.now.matched.scale)
+            → AreHalfPeriodLevels (half_of self.now.matched) (nominal_of self.now.matched.scale)
             (uncertainty_of self.now.matched.scale) recorded result }
     {
         self.levels
@@ -147,8 +147,8 @@ impl Measure {
         Ok(())
     }
 
-    /// Takes the records of a block, one sample of each. The error is the index of the first one whose voltage is over range, counted
-    /// from 0 over all records taken.
+    /// Takes the records of a block, one sample of each. The error is the index of the first one whose voltage is over
+    /// range, counted from 0 over all records taken.
     pub fn take(&mut self, block: &Block) -> Result<(), u32>
         requires channel { self.old.channel < block.now.analog }
         requires few { self.old.taken + length block.now.records < 2 ^ 32 }

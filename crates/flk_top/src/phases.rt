@@ -37,14 +37,14 @@ fn setup_of(job: &Job, config: &Config) -> Setup
     Setup {
         lamp: job.lamp,
         rate: config.rate,
-        run_in: config.rate.hertz() * u32::from(job.run_in_s),
-        interval: config.rate.hertz() * u32::from(job.interval_s),
+        run_in: job.run_in_samples(config.rate),
+        interval: job.interval_samples(config.rate),
         count: interval_count(job, config.rate, config.endsamp),
     }
 }
 
-/// One phase for each channel of a job, in its order, of which none has taken a sample. The filter is that of the job's lamp at the
-/// configuration's rate.
+/// One phase for each channel of a job, in its order, of which none has taken a sample. The filter is that of the job's
+/// lamp at the configuration's rate.
 pub fn phases_of(
     alloc: Global,
     job: &Job,
@@ -136,8 +136,9 @@ fn first_over(phases: &[Phase]) -> Option<(u32, usize)>
     first
 }
 
-/// The phases of a job take the records of a block, in as many parts side by side as there are workers. The answer is the least record, from
-/// 1, in which a channel is over range, with the first such channel's place in the job, from 0; None where none is.
+/// The phases of a job take the records of a block, in as many parts side by side as there are workers. The answer is
+/// the least record, from 1, in which a channel is over range, with the first such channel's place in the job, from 0;
+/// None where none is.
 pub fn work_block<R: Threads + Sync, G: Gate + Sync>(
     rt: &R,
     phases: &mut Vec<Phase>,

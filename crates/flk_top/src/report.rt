@@ -123,7 +123,8 @@ fn phases_reply<R: Threads + Sync, F: Shelf, G: Gate + Sync>(
     }
 }
 
-// The answer for a job and a configuration that are accepted: whether they match, whether the lamp is certified, and then the data.
+// The answer for a job and a configuration that are accepted: whether they match, whether the lamp is certified, and
+// then the data.
 fn job_reply<R: Threads + Sync, F: Shelf, G: Gate + Sync>(
     rt: &R,
     alloc: Global,

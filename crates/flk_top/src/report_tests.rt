@@ -295,8 +295,8 @@ fn two_channels(alloc: Global) -> Result<String, OutOfMemory> {
     Ok(whole)
 }
 
-// The square wave of 100 V in two channels, with 230 V in some records, from 1, of the one and of the other. From one record on the sample
-// numbers are one greater.
+// The square wave of 100 V in two channels, with 230 V in some records, from 1, of the one and of the other. From one
+// record on the sample numbers are one greater.
 fn two_waves(
     alloc: Global,
     first: &[u32],
@@ -324,7 +324,8 @@ fn job_of(alloc: Global, nominal_mv: u32, channels: &str) -> Result<String, OutO
     )
 }
 
-// The record with the least number is named, in a record its form comes before its voltages, and of these the job's first channel.
+// The record with the least number is named, in a record its form comes before its voltages, and of these the job's
+// first channel.
 #[test]
 fn the_first_fault_of_the_data(rt: HostRuntime) -> Result<(), Fail> {
     let alloc = rt.alloc();

@@ -1,4 +1,5 @@
-//! The command `tables`: the coefficients of a lamp's sections, their gains, and the bound of the sections behind the first in a row.
+//! The command `tables`: the coefficients of a lamp's sections, their gains, and the bound of the sections behind the
+//! first in a row.
 
 ghost use Rattle.std.specs.Prelude.{◌≡◌, IfOk, string_bytes};
 ghost use Rattle.flk_cert.specs.Gain.{input_of, rounding_of};
@@ -76,8 +77,8 @@ fn lamp_lines(alloc: Global, certified: &CertifiedLamp) -> Result<String, OutOfM
     Ok(text)
 }
 
-/// The answer to `tables`: two lines for each section of the lamp's filter at the rate, and one for the sections behind the first in
-/// a row; or why the lamp isn't certified.
+/// The answer to `tables`: two lines for each section of the lamp's filter at the rate, and one for the sections behind
+/// the first in a row; or why the lamp isn't certified.
 pub fn tables_reply(alloc: Global, lamp: Lamp, rate: Rate) -> Result<Reply, OutOfMemory>
     ensures { IfOk result (λ r. IsDueForTables lamp rate (outcome_of r)) }
 {

@@ -52,8 +52,8 @@ pub fn varied(alloc: Global, old: &str, new: &str) -> Result<String, OutOfMemory
     Ok(text)
 }
 
-// Under X the configuration, under Z the same one in other bytes (lines that end in LF alone, and 0.010 for 0.01), under V that of
-// 4800 samples a second, and under Y the data of all.
+// Under X the configuration, under Z the same one in other bytes (lines that end in LF alone, and 0.010 for 0.01),
+// under V that of 4800 samples a second, and under Y the data of all.
 fn filled_shelf(alloc: Global) -> Result<MemShelf, OutOfMemory> {
     let mut other = String::new(alloc);
     for part in varied(alloc, ",0.01,", ",0.010,")?.as_str().split('\r') {

@@ -2,8 +2,7 @@ use Rattle.std.proofs.Common.{rules, ◌≡◌, ◌<◌, true, false, length, []
 use Rattle.std.specs.Str.{bytes_eq}
 use Rattle.std.proofs.lemmas.List.{get_or-map, length-map, take_all}
 use Rattle.flk_io.specs.OpenFiles.{name_of}
-use Rattle.flk_io.proofs.Lookups.{equal_names}
-use Rattle.flk_io.proofs.Names.{unequal_names, not_among-more}
+use Rattle.flk_io.proofs.Names.{equal_names, unequal_names, not_among-more}
 use Rattle.flk_io.proofs.open_files.place.Goals as goal
 
 pub returns-then-eq-clause-named : goal.returns-then-eq-clause-named

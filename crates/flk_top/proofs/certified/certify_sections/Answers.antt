@@ -1,5 +1,5 @@
 use Rattle.std.proofs.Common.{rules, ◌≡◌, ◌<◌, [], ◌∷◌, ◌++◌, length, refl}
-use Rattle.flk_top.specs.Certified.{IsAccepted, IsRefused}
+use Rattle.flk_top.specs.Certified.{IsCertifiedSection, IsRefused}
 use Rattle.flk_top.proofs.LampLemmas.{first_refused, accepted_more}
 use Rattle.flk_top.proofs.certified.certify_sections.Goals as goal
 
@@ -18,6 +18,6 @@ loop-i-preserved c =
     let k = c.index-sections-i.result in
     let sections = c.args.sections.now in
     let there : i < length sections = search rules in
-    let one : IsAccepted k c.in-Some.section = search rules in
+    let one : IsCertifiedSection k c.in-Some.section = search rules in
     let pushed : c.push.new.self.items ≡ c.loop-i.found.items ++ c.in-Some.section ∷ [] = search rules in
     accepted_more sections i k c.loop-i.found.items c.in-Some.section c.push.new.self.items there c.index-sections-i.is c.loop-i.invariant one pushed

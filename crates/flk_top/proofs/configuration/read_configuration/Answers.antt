@@ -8,8 +8,9 @@ use Rattle.flk_cfg.proofs.ReadLaws.{read_is_valid}
 use Rattle.flk_top.specs.Configuration.{configuration_limit, IsConfiguration}
 use Rattle.flk_top.specs.Faults.{configuration_line}
 use Rattle.flk_top.specs.declared.reply.Status.TheVariants.{Refused}
-use Rattle.flk_top.proofs.Replies.{all_may_be, too_long_refused, fault_refused}
+use Rattle.flk_top.proofs.Replies.{too_long_refused, fault_refused}
 use Rattle.flk_top.proofs.configuration.read_configuration.Goals as goal
+use Rattle.flk_top.proofs.AgreeingFiles.{MayHold-all}
 
 pub returns-in-Ok-read_cfg-clause-valid : goal.returns-in-Ok-read_cfg-clause-valid
 returns-in-Ok-read_cfg-clause-valid g c =
@@ -23,7 +24,7 @@ returns-in-Ok-read_cfg-clause-configuration g c =
     let bytes = c.in-Ok.bytes.items in
     let took : TakesAll left after bytes = search rules in
     let is : IsConfiguration bytes c.in-Ok-read_cfg.config = search rules in
-    (bytes, all_may_be left after bytes took, is)
+    (bytes, MayHold-all left after bytes took, is)
 
 pub returns-in-Err-TooLong-clause-refusal : goal.returns-in-Err-TooLong-clause-refusal
 returns-in-Err-TooLong-clause-refusal g c = λ fine.

@@ -6,9 +6,9 @@ use Rattle.flk_job.specs.Kinds.{kind_number}
 use Rattle.flk_job.specs.declared.kind.Kind.TheVariants.{Length}
 use Rattle.flk_top.specs.Faults.{job_line}
 use Rattle.flk_top.specs.declared.reply.Status.TheVariants.{Refused}
-use Rattle.flk_top.proofs.Replies.{all_may_be}
 use Rattle.flk_top.proofs.JobReplies.{too_long_job, fault_of_job}
 use Rattle.flk_top.proofs.job.read_job_file.Goals as goal
+use Rattle.flk_top.proofs.AgreeingFiles.{MayHold-all}
 
 pub returns-in-Ok-read_job-clause-job : goal.returns-in-Ok-read_job-clause-job
 returns-in-Ok-read_job-clause-job g c =
@@ -18,7 +18,7 @@ returns-in-Ok-read_job-clause-job g c =
     let took : TakesAll left after bytes = search rules in
     let found : IsJob c.deref.result.now c.in-Ok-read_job.job = search rules in
     let is : IsJob bytes c.in-Ok-read_job.job = rw c.deref.ensures.value at found in
-    (bytes, all_may_be left after bytes took, is)
+    (bytes, MayHold-all left after bytes took, is)
 
 pub returns-in-Err-TooLong-clause-refusal : goal.returns-in-Err-TooLong-clause-refusal
 returns-in-Err-TooLong-clause-refusal g c = λ fine.

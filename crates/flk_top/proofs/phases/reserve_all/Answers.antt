@@ -1,8 +1,9 @@
 use Rattle.std.proofs.Common.{arith, ◌<◌, length, length-set, sym, subst, ◌∙◌}
 use Rattle.flk_phase.specs.Taking.{IsSamePhase}
 use Rattle.flk_phase.specs.declared.phase.Phase.{Phase}
+use Rattle.flk_phase.proofs.WorkersLemmas.{rest_next}
 use Rattle.flk_top.specs.Working.{IsReserved}
-use Rattle.flk_top.proofs.PhasesLemmas.{reserved_done, reserved_rest}
+use Rattle.flk_top.proofs.PhasesLemmas.{reserved_done}
 use Rattle.flk_top.proofs.phases.reserve_all.Goals as goal
 
 pub loop-i-preserved : goal.loop-i-preserved
@@ -18,5 +19,5 @@ loop-i-preserved c =
     record {
       count = length-set mid i q ∙ held.count;
       done = reserved_done c.args.samples old mid i p q there c.index-phases-i.is one held.done held.rest;
-      rest = reserved_rest old mid i q held.rest;
+      rest = rest_next old mid i q held.rest;
     }

@@ -1,9 +1,10 @@
 use Rattle.std.proofs.Common.{rules, FitsSigned, to_z-of_z, ℤ, subst, List}
 use Rattle.std.specs.Int.{w128}
 use Rattle.flk_num.specs.Interval.{lows, highs}
+use Rattle.flk_num.proofs.IntervalLemmas.{ends_ordered}
 use Rattle.flk_stat.specs.LongTerm.{IsLongTerm}
 use Rattle.flk_stat.proofs.LongTermLemmas.{long_term_≤}
-use Rattle.flk_phase.proofs.SeveritiesLemmas.{lows_in_range, highs_in_range, ends_ordered}
+use Rattle.flk_phase.proofs.SeveritiesLemmas.{lows_in_range, highs_in_range}
 use Rattle.flk_phase.proofs.severities.Severities.long_term.Goals as goal
 
 pub plt-lo-requires-clause-in_range : goal.plt-lo-requires-clause-in_range
