@@ -7,7 +7,7 @@ use crate::cutter::Cutter;
 use crate::front::Front;
 use crate::job::Job;
 use crate::scale::{Scale, Unmatched};
-use crate::severity::{long_term, severity};
+use crate::severity::{Ends, long_term};
 use crate::smooth::Smooth;
 use std::thread;
 
@@ -36,8 +36,8 @@ pub struct Phase {
     run_in: u32,
     interval: usize,
     intervals: usize,
-    lows: Vec<i128>,
-    highs: Vec<i128>,
+    lows: Ends,
+    highs: Ends,
     pst: Vec<Interval>,
 }
 
@@ -59,8 +59,8 @@ impl Phase {
             run_in: config.rate * job.run_in_s,
             interval,
             intervals: job.intervals(config),
-            lows: Vec::with_capacity(interval),
-            highs: Vec::with_capacity(interval),
+            lows: Ends::with_capacity(interval),
+            highs: Ends::with_capacity(interval),
             pst: Vec::new(),
         })
     }
@@ -76,7 +76,7 @@ impl Phase {
         self.lows.push(lo);
         self.highs.push(hi);
         if self.lows.len() == self.interval {
-            let (lo, hi) = (severity(&mut self.lows) as i64, severity(&mut self.highs) as i64);
+            let (lo, hi) = (self.lows.severity() as i64, self.highs.severity() as i64);
             self.pst.push(Interval { lo, hi });
         }
     }

@@ -36,35 +36,69 @@ fn capped_root(sum: u128) -> u64 {
     (if root * root < wanted { root + 1 } else { root }).min(u128::from(CAP)) as u64
 }
 
-/// The severity of levels in any order, by sorting all of them. They are let go.
-pub fn sorted_severity(levels: &mut Vec<i128>) -> u64 {
-    levels.sort_unstable();
-    let n = levels.len();
-    let sum = SHARES.iter().map(|(tenths, weight)| weight * levels[n - rank(*tenths, n)] as u128).sum();
-    levels.clear();
-    capped_root(sum)
+/// The ends of the levels of one interval: those below 2^64, and the others.
+pub struct Ends {
+    narrow: Vec<u64>,
+    wide: Vec<i128>,
 }
 
-/// The severity of levels in any order. Of many levels only those above the percentile of 17 percent are sorted: the others are selected
-/// one after the other, each among the levels above the last one. They are let go.
-pub fn severity(levels: &mut Vec<i128>) -> u64 {
-    let n = levels.len();
-    if n < 1000 {
-        return sorted_severity(levels);
+impl Ends {
+    /// Room for so many ends.
+    pub fn with_capacity(n: usize) -> Ends {
+        Ends {
+            narrow: Vec::with_capacity(n),
+            wide: Vec::new(),
+        }
     }
-    let (mut above, mut sum) = (levels.as_mut_slice(), 0);
-    for (tenths, weight) in SHARES[11..].iter().rev() {
-        let place = above.len() - rank(*tenths, n);
-        let (_, level, rest) = above.select_nth_unstable(place);
-        sum += weight * *level as u128;
-        above = rest;
+
+    /// How many there are.
+    pub fn len(&self) -> usize {
+        self.narrow.len() + self.wide.len()
     }
-    above.sort_unstable();
-    for (tenths, weight) in &SHARES[..11] {
-        sum += weight * above[above.len() - rank(*tenths, n)] as u128;
+
+    /// Whether there are none.
+    pub fn is_empty(&self) -> bool {
+        self.len() == 0
     }
-    levels.clear();
-    capped_root(sum)
+
+    pub fn push(&mut self, end: i128) {
+        match u64::try_from(end) {
+            Ok(narrow) => self.narrow.push(narrow),
+            Err(_) => self.wide.push(end),
+        }
+    }
+
+    // The weighted sum where all are sorted.
+    fn sorted_sum(&mut self) -> u128 {
+        self.narrow.sort_unstable();
+        self.wide.sort_unstable();
+        let (m, n) = (self.narrow.len(), self.narrow.len() + self.wide.len());
+        let level = |place: usize| if place < m { u128::from(self.narrow[place]) } else { self.wide[place - m] as u128 };
+        SHARES.iter().map(|(tenths, weight)| weight * level(n - rank(*tenths, n))).sum()
+    }
+
+    // The weighted sum of at least 1000, all of them below 2^64: the percentiles are selected one after the other, each among the ends
+    // above the last one.
+    fn selected_sum(&mut self) -> u128 {
+        let n = self.narrow.len();
+        let (mut above, mut sum) = (self.narrow.as_mut_slice(), 0);
+        for (tenths, weight) in SHARES.iter().rev() {
+            let place = above.len() - rank(*tenths, n);
+            let (_, level, rest) = above.select_nth_unstable(place);
+            sum += weight * u128::from(*level);
+            above = rest;
+        }
+        sum
+    }
+
+    /// Their severity. They are let go.
+    pub fn severity(&mut self) -> u64 {
+        let selects = self.wide.is_empty() && self.narrow.len() >= 1000;
+        let sum = if selects { self.selected_sum() } else { self.sorted_sum() };
+        self.narrow.clear();
+        self.wide.clear();
+        capped_root(sum)
+    }
 }
 
 /// The long-term severity of twelve short-term ones.

@@ -110,7 +110,7 @@ stands_ends old new run_in interval count levels x v none left kept done pst ope
     let start = run_in + old.done * interval in
     let few : old.done < count = omega (arith, open', h.count_is, old.within) in
     let place : old.done < length old.pst = omega (arith, few, h.count_is, old.few, old.twelve) in
-    let full : length h.newest + 1 ≡ interval = omega (arith, ends.room, h.added.size, ap length h.added.lows, length-map h.newest (λ (i : Interval). i.lo)) in
+    let full : length h.newest + 1 ≡ interval = omega (arith, ends.room, h.added.count) in
     let size = length_by start levels h.newest (h.reached past) (h.newest_is few) in
     let part = part_whole run_in interval old.done levels h.newest x (h.reached past) (h.newest_is few) full in
     let severity = ends.severity interval h.newest h.added in
@@ -157,7 +157,7 @@ highs_in_range vs all = All-map (IsBetween (pos 0) cap) (λ (v : Interval). v.hi
 pub all_done : (s : Severities) (run_in interval count : ℕ) (levels : List Interval) → StandsFor s run_in interval count levels → run_in + count * interval ≤ length levels → s.done ≡ count
 all_done s run_in interval count levels h enough =
     let past : run_in ≤ length levels = omega (arith, enough) in
-    let room : length h.newest < interval = omega (arith, s.room, h.added.size, ap length h.added.lows, length-map h.newest (λ (i : Interval). i.lo)) in
+    let room : length h.newest < interval = omega (arith, s.room, h.added.count) in
     let least : s.done ≤ count = omega (arith, s.within, h.count_is) in
     ⊎_elim
     (λ few.

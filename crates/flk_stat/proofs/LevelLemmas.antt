@@ -1,16 +1,18 @@
 -- The ends of the levels of an interval, and the exact levels between them.
-use Rattle.std.proofs.Common.{◌≡◌, ◌^◌, zero, suc, List, [], ◌∷◌, ◌++◌, length, map, ℤ, pos, ◌≤ℤ◌, arith}
-use Rattle.std.specs.List.{All, AllZip}
+use Rattle.std.proofs.Common.{◌^◌, List, [], ◌∷◌, ◌++◌, map, ℤ, ◌≤ℤ◌, sym, subst, arith}
+use Rattle.std.specs.List.{AllZip}
 use Rattle.std.specs.List.Sorted.{IsPermutation}
-use Rattle.std.proofs.lemmas.Int.{ints}
-use Rattle.std.proofs.lemmas.List.Sorted.{IsPermutation-map, IsPermutation-sym}
+use Rattle.std.proofs.lemmas.Grind.{not_there}
+use Rattle.std.proofs.lemmas.Int.{ints, by_lt_z}
+use Rattle.std.proofs.lemmas.List.{map-append}
+use Rattle.std.proofs.lemmas.List.Sorted.{IsPermutation-refl, IsPermutation-map, IsPermutation-sym, IsPermutation-trans, IsPermutation-append_left}
 use Rattle.flk_exact.specs.Fraction.{Fraction, ◌≤ℚ◌, units}
 use Rattle.flk_exact.specs.Rounding.{IsBetween}
 use Rattle.flk_exact.proofs.WholeLemmas.{scale_≤}
 use Rattle.flk_num.specs.declared.interval.Interval.{Interval}
 use Rattle.flk_num.specs.Interval.{HoldEach, lows, highs}
 use Rattle.flk_stat.specs.Severity.{IsSeverity, IsSeverityOfEnds}
-use Rattle.flk_stat.specs.Ranked.{IsLevelEnd, AreBelow}
+use Rattle.flk_stat.specs.Ranked.{AreEndsOfLevels}
 use Rattle.flk_stat.proofs.SeverityLemmas.{severity_≤, severity-permutation}
 
 lows_below : (vs : List Interval) (ps : List Fraction) → HoldEach vs ps → AllZip ◌≤ℚ◌ (map units (lows vs)) ps
@@ -36,15 +38,6 @@ pub severity_unsorted : (levels sorted : List ℤ) (w : ℤ) → IsPermutation l
 severity_unsorted levels sorted w h s =
     severity-permutation (map units sorted) (map units levels) w (IsPermutation-map units sorted levels (IsPermutation-sym levels sorted h)) s
 
--- the new ends are in order where all ends were
-pub below-push : (xs ys : List ℤ) (x y : ℤ) → length xs ≡ length ys → AreBelow xs ys → x ≤ℤ y → AreBelow (xs ++ x ∷ []) (ys ++ y ∷ [])
-below-push [] [] x y same below order zero d = order
-below-push [] [] x y same below order (suc i) d = omega (arith, ints)
-below-push [] (b ∷ ys) x y same below order i d = absurd (omega arith)
-below-push (a ∷ xs) [] x y same below order i d = absurd (omega arith)
-below-push (a ∷ xs) (b ∷ ys) x y same below order zero d = below 0 d
-below-push (a ∷ xs) (b ∷ ys) x y same below order (suc i) d = below-push xs ys x y (omega arith) (λ j e. below (suc j) e) order i d
-
 -- greater ends give no lesser severity
 each_below : (xs ys : List ℤ) → AllZip ◌≤ℤ◌ xs ys → AllZip ◌≤ℚ◌ (map units xs) (map units ys)
 each_below [] [] h = tt
@@ -55,17 +48,41 @@ each_below (x ∷ xs) (y ∷ ys) h = (record { cross = scale_≤ x y (2 ^ 48) h.
 pub severity_of_ends_≤ : (xs ys : List ℤ) (v w : ℤ) → AllZip ◌≤ℤ◌ xs ys → IsSeverityOfEnds xs v → IsSeverityOfEnds ys w → v ≤ℤ w
 severity_of_ends_≤ xs ys v w h a b = severity_≤ (map units xs) (map units ys) v w (each_below xs ys h) a b
 
-below_each : (xs ys : List ℤ) → length xs ≡ length ys → AreBelow xs ys → AllZip ◌≤ℤ◌ xs ys
-below_each [] [] same below = tt
-below_each [] (y ∷ ys) same below = absurd (omega arith)
-below_each (x ∷ xs) [] same below = absurd (omega arith)
-below_each (x ∷ xs) (y ∷ ys) same below = (below 0 (pos 0), below_each xs ys (omega arith) (λ i d. below (suc i) d))
+-- ---- the ends of the same levels, in any order
 
-pub ends_≤ : (xs ys : List ℤ) (v w : ℤ) → length xs ≡ length ys → AreBelow xs ys → IsSeverityOfEnds xs v → IsSeverityOfEnds ys w → v ≤ℤ w
-ends_≤ xs ys v w same below a b = severity_of_ends_≤ xs ys v w (below_each xs ys same below) a b
+pub ordered_ends : (vs : List Interval) → AllZip ◌≤ℤ◌ (lows vs) (highs vs)
+ordered_ends [] = tt
+ordered_ends (v ∷ vs) = (v.ordered, ordered_ends vs)
 
-natural_end : (z : ℤ) → IsLevelEnd z → pos 0 ≤ℤ z
-natural_end z h = h.low
+severities_ordered : (low_ends high_ends : List ℤ) (lo hi : ℤ) → AreEndsOfLevels low_ends high_ends → IsSeverityOfEnds low_ends lo → IsSeverityOfEnds high_ends hi → lo ≤ℤ hi
+severities_ordered low_ends high_ends lo hi h a b =
+    severity_of_ends_≤ (lows h.levels) (highs h.levels) lo hi (ordered_ends h.levels)
+    (severity_unsorted (lows h.levels) low_ends lo h.low a) (severity_unsorted (highs h.levels) high_ends hi h.high b)
 
-pub natural_ends : (xs : List ℤ) → All IsLevelEnd xs → All (λ z. pos 0 ≤ℤ z) xs
-natural_ends xs h = λ i d less. natural_end _ (h i d less)
+pub severities_in_order : (low_ends high_ends : List ℤ) (lo hi : ℤ) → ∥ AreEndsOfLevels low_ends high_ends ∥₁ → IsSeverityOfEnds low_ends lo → IsSeverityOfEnds high_ends hi → lo ≤ℤ hi
+severities_in_order low_ends high_ends lo hi levels a b =
+    by_lt_z hi lo
+    (λ above. absurd (not_there levels (λ h. (let order = severities_ordered low_ends high_ends lo hi h a b in omega (arith, ints, order, above)))))
+    (λ order. order)
+
+pub no_ends : AreEndsOfLevels [] []
+no_ends = record { levels = []; low = IsPermutation-refl []; high = IsPermutation-refl [] }
+
+-- an end more of each
+pub lows_more : (ls : List Interval) (v : Interval) (ends more : List ℤ) → IsPermutation (lows ls) ends → IsPermutation (ends ++ v.lo ∷ []) more → IsPermutation (lows (ls ++ v ∷ [])) more
+lows_more ls v ends more h added =
+    subst (λ (zs : List ℤ). IsPermutation zs more) (sym (map-append (λ (i : Interval). i.lo) ls (v ∷ [])))
+    (IsPermutation-trans (lows ls ++ v.lo ∷ []) (ends ++ v.lo ∷ []) more (IsPermutation-append_left (v.lo ∷ []) (lows ls) ends h) added)
+
+pub highs_more : (ls : List Interval) (v : Interval) (ends more : List ℤ) → IsPermutation (highs ls) ends → IsPermutation (ends ++ v.hi ∷ []) more → IsPermutation (highs (ls ++ v ∷ [])) more
+highs_more ls v ends more h added =
+    subst (λ (zs : List ℤ). IsPermutation zs more) (sym (map-append (λ (i : Interval). i.hi) ls (v ∷ [])))
+    (IsPermutation-trans (highs ls ++ v.hi ∷ []) (ends ++ v.hi ∷ []) more (IsPermutation-append_left (v.hi ∷ []) (highs ls) ends h) added)
+
+pub ends_more : (low_ends high_ends more_low more_high : List ℤ) (v : Interval) → IsPermutation (low_ends ++ v.lo ∷ []) more_low → IsPermutation (high_ends ++ v.hi ∷ []) more_high
+    → AreEndsOfLevels low_ends high_ends → AreEndsOfLevels more_low more_high
+ends_more low_ends high_ends more_low more_high v low high h = record {
+  levels = h.levels ++ v ∷ [];
+  low = lows_more h.levels v low_ends more_low h.low low;
+  high = highs_more h.levels v high_ends more_high h.high high;
+}

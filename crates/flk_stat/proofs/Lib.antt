@@ -1,6 +1,7 @@
 pub mod CountLemmas
 pub mod RankLemmas
 pub mod PercentileLemmas
+pub mod EndLemmas
 pub mod SmoothingSteps
 pub mod SmoothingLemmas
 pub mod SmoothingLaws

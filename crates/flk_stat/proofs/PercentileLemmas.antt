@@ -19,7 +19,8 @@ use Rattle.flk_exact.proofs.FractionLemmas.{≤ℚ-refl, ≤ℚ-trans, ≤ℚ-bo
 use Rattle.flk_exact.proofs.ListLemmas.{AllZip-weaker, Contains-map, Contains-from_map}
 use Rattle.flk_front.proofs.SquareSteps.{ceil_within, ceil_least}
 use Rattle.flk_stat.specs.Rank.{HasRank, is_less, rank_of}
-use Rattle.flk_stat.specs.Ranked.{IsLevelEnd, ranked_at}
+use Rattle.flk_stat.specs.Ranked.{ranked_at}
+use Rattle.flk_stat.specs.Severity.{IsLevelEnd}
 use Rattle.flk_stat.proofs.CountLemmas.{count_none, count_all, count_made}
 use Rattle.flk_stat.proofs.RankLemmas.{IsOrder, by_truth, rank_clash, AllZip-itself}
 
@@ -183,10 +184,3 @@ pub ranked_end : (xs : List ℤ) (n k : ℕ) → All IsLevelEnd xs → 0 < n →
 ranked_end xs n k ends some low high fits =
     let within = rank_in k n low high some in
     All-get_or IsLevelEnd xs (length xs - rank_of k n) (pos 0) (omega (arith, within.0, fits)) ends
-
-pub rank_of_≤ : (j k n : ℕ) → j ≤ k → rank_of j n ≤ rank_of k n
-rank_of_≤ j k n order =
-    let product : j * n ≤ k * n = mul-le-mul_right n order in
-    let low = ceil_least (j * n) 1000 (omega arith) in
-    let high = ceil_within (k * n) 1000 (omega arith) in
-    omega (arith, product, low, high)

@@ -1,36 +1,33 @@
 -- The percentiles of levels of which the greater ones are selected one after the other.
-use Rattle.std.proofs.Common.{◌≡◌, ℕ, suc, ◌+◌, ◌*◌, ◌-◌, ◌<◌, ◌≤◌, false, not, cond, List, [], ◌∷◌, ◌++◌, length, take, ℤ, pos, ◌+ℤ◌, ◌-ℤ◌, ◌*ℤ◌, ◌≤ℤ◌, refl, sym, ap, subst, arith}
+use Rattle.std.proofs.Common.{◌≡◌, ℕ, suc, ◌+◌, ◌*◌, ◌-◌, ◌<◌, ◌≤◌, false, not, cond, List, [], ◌∷◌, ◌++◌, length, map, get_or, ℤ, pos, ◌+ℤ◌, ◌-ℤ◌, ◌*ℤ◌, ◌≤ℤ◌, refl, sym, ap, subst, arith, length-append, mul-le-mul_right}
 use Rattle.std.specs.Prelude.{int_lt}
 use Rattle.std.specs.List.{All}
 use Rattle.std.specs.List.Sorted.{IsPermutation, IsSplitAround}
-use Rattle.std.specs.Ordering.{int_cmp, is_lt}
-use Rattle.std.proofs.lemmas.Bool.Decides.{nat_tests}
-use Rattle.std.proofs.lemmas.Int.{ints, by_lt_z}
-use Rattle.std.proofs.lemmas.List.{get_or-append-add, length-append}
-use Rattle.std.proofs.lemmas.List.Elements.{All-nil, All-cons, All-contains, Contains-append_right}
-use Rattle.std.proofs.lemmas.List.Sorted.{All-permutation, IsPermutation-sym, length_permutation}
+use Rattle.std.specs.Ordering.{nat_cmp}
+use Rattle.std.proofs.lemmas.Int.{ints}
+use Rattle.std.proofs.lemmas.List.{length-map, map-append, append-nil}
+use Rattle.std.proofs.lemmas.List.Elements.{All-nil, All-cons, All-map, All-contains, Contains-append_right}
+use Rattle.std.proofs.lemmas.List.Sorted.{IsPermutation-sym, IsPermutation-map, length_permutation}
 use Rattle.std.proofs.lemmas.List.Sums.{sum_by-append, count_by-le-length}
 use Rattle.flk_front.proofs.SquareSteps.{ceil_within, ceil_least}
 use Rattle.flk_stat.specs.declared.severity.Share.{Share}
 use Rattle.flk_stat.specs.Rank.{HasRank, rank_of}
-use Rattle.flk_stat.specs.Ranked.{IsLevelEnd, AreWithin, IsWeightedSum, IsSumOfPercentiles, IsSelected}
-use Rattle.flk_stat.specs.Severity.{share, shares}
+use Rattle.flk_stat.specs.Ranked.{AreWithin, IsWeightedSum, IsSumOfPercentiles, IsSelected, RiseFrom, together}
+use Rattle.flk_stat.specs.Severity.{shares}
 use Rattle.flk_stat.proofs.CountLemmas.{count_none, count_all, count_yes, count_no, count_more}
-use Rattle.flk_stat.proofs.PercentileLemmas.{less-false, rank_of_≤}
+use Rattle.flk_stat.proofs.PercentileLemmas.{less-false}
 use Rattle.flk_stat.proofs.RankLemmas.{rank-permutation}
-
-not_less : (a b : ℤ) → is_lt (int_cmp a b) ≡ false → b ≤ℤ a
-not_less a b h = by_lt_z a b (λ l. absurd (grind (arith, ints, nat_tests, h))) (λ l. l)
+use Rattle.flk_stat.proofs.EndLemmas.{nat_not_less, natural_≤}
 
 -- what stands before and behind the number that was selected
 record IsSplit (front : List ℤ) (x : ℤ) (back : List ℤ) : Type 0 where
   least : All (λ y. y ≤ℤ x) front
   greatest : All (λ y. x ≤ℤ y) back
 
-split_is : (front back : List ℤ) (x : ℤ) → IsSplitAround int_cmp front x back → IsSplit front x back
+split_is : (front back : List ℕ) (x : ℕ) → IsSplitAround nat_cmp front x back → IsSplit (map pos front) (pos x) (map pos back)
 split_is front back x split = record {
-  least = λ k d less. not_less x _ (split.0 k d less);
-  greatest = λ k d less. not_less _ x (split.1 k d less);
+  least = All-map (λ y. y ≤ℤ pos x) pos front (λ k d less. natural_≤ (get_or front k d) x (nat_not_less x (get_or front k d) (split.0 k d less)));
+  greatest = All-map (λ y. pos x ≤ℤ y) pos back (λ k d less. natural_≤ x (get_or back k d) (nat_not_less (get_or back k d) x (split.1 k d less)));
 }
 
 -- it has the rank that its place says
@@ -72,15 +69,22 @@ sum-permutation n [] xs ys sum moved h = h
 sum-permutation n (s ∷ ss) xs ys sum moved h =
     (h.0, rank-permutation int_lt (rank_of s.tenths n) xs ys h.0 moved h.1, sum-permutation n ss xs ys (sum -ℤ pos s.weight *ℤ h.0) moved h.2)
 
-selected_rank : (n : ℕ) (s : Share) (levels above : List ℤ) (part : ℤ) (h : IsSelected n s levels part above) → HasRank int_lt (rank_of s.tenths n) levels h.x
-selected_rank n s levels above part h =
-    rank-permutation int_lt (rank_of s.tenths n) (h.front ++ h.x ∷ above) levels h.x (IsPermutation-sym levels (h.front ++ h.x ∷ above) h.moved)
-    (subst (λ (k : ℕ). HasRank int_lt k (h.front ++ h.x ∷ above) h.x) h.place (rank_here h.front above h.x (split_is h.front above h.x h.split)))
+moved_back : (n : ℕ) (s : Share) (levels above : List ℕ) (part : ℤ) (h : IsSelected n s levels part above) → IsPermutation (map pos h.front ++ pos h.x ∷ map pos above) (map pos levels)
+moved_back n s levels above part h =
+    IsPermutation-sym (map pos levels) (map pos h.front ++ pos h.x ∷ map pos above)
+    (subst (λ (zs : List ℤ). IsPermutation (map pos levels) zs) (map-append pos h.front (h.x ∷ above)) (IsPermutation-map pos levels (h.front ++ h.x ∷ above) h.moved))
 
-rank_kept : (n k : ℕ) (s : Share) (levels above : List ℤ) (part v : ℤ) → IsSelected n s levels part above → HasRank int_lt k above v → HasRank int_lt k levels v
+selected_rank : (n : ℕ) (s : Share) (levels above : List ℕ) (part : ℤ) (h : IsSelected n s levels part above) → HasRank int_lt (rank_of s.tenths n) (map pos levels) (pos h.x)
+selected_rank n s levels above part h =
+    let zs : List ℤ = map pos h.front ++ pos h.x ∷ map pos above in
+    let place : length (map pos above) + 1 ≡ rank_of s.tenths n = omega (arith, h.place, length-map above pos) in
+    rank-permutation int_lt (rank_of s.tenths n) zs (map pos levels) (pos h.x) (moved_back n s levels above part h)
+    (subst (λ (k : ℕ). HasRank int_lt k zs (pos h.x)) place (rank_here (map pos h.front) (map pos above) (pos h.x) (split_is h.front above h.x h.split)))
+
+rank_kept : (n k : ℕ) (s : Share) (levels above : List ℕ) (part v : ℤ) → IsSelected n s levels part above → HasRank int_lt k (map pos above) v → HasRank int_lt k (map pos levels) v
 rank_kept n k s levels above part v h r =
-    rank-permutation int_lt k (h.front ++ h.x ∷ above) levels v (IsPermutation-sym levels (h.front ++ h.x ∷ above) h.moved)
-    (rank_behind k h.front above h.x v (split_is h.front above h.x h.split) r)
+    rank-permutation int_lt k (map pos h.front ++ pos h.x ∷ map pos above) (map pos levels) v (moved_back n s levels above part h)
+    (rank_behind k (map pos h.front) (map pos above) (pos h.x) v (split_is h.front above h.x h.split) r)
 
 last_part : (rest part product : ℤ) → rest ≡ pos 0 → part ≡ product → rest +ℤ part -ℤ product ≡ pos 0
 last_part rest part product a b = omega (arith, ints, a, b)
@@ -89,28 +93,15 @@ later_part : (rest part product : ℤ) → rest -ℤ product +ℤ part ≡ rest 
 later_part rest part product = omega (arith, ints)
 
 -- the share that was selected comes to those of the levels above it
-sum_more : (n : ℕ) (ss : List Share) (s : Share) (levels above : List ℤ) (part rest : ℤ) → IsSelected n s levels part above → IsWeightedSum n ss above rest
-    → IsWeightedSum n (ss ++ s ∷ []) levels (rest +ℤ part)
-sum_more n [] s levels above part rest h is = (h.x, selected_rank n s levels above part h, last_part rest part (pos s.weight *ℤ h.x) is h.weighed)
+pub sum_more : (n : ℕ) (ss : List Share) (s : Share) (levels above : List ℕ) (part rest : ℤ) → IsSelected n s levels part above → IsWeightedSum n ss (map pos above) rest
+    → IsWeightedSum n (ss ++ s ∷ []) (map pos levels) (rest +ℤ part)
+sum_more n [] s levels above part rest h is = (pos h.x, selected_rank n s levels above part h, last_part rest part (pos s.weight *ℤ pos h.x) is h.weighed)
 sum_more n (t ∷ ss) s levels above part rest h is = (
   is.0,
   rank_kept n (rank_of t.tenths n) s levels above part is.0 h is.1,
-  subst (λ (z : ℤ). IsWeightedSum n (ss ++ s ∷ []) levels z) (later_part rest part (pos t.weight *ℤ is.0))
+  subst (λ (z : ℤ). IsWeightedSum n (ss ++ s ∷ []) (map pos levels) z) (later_part rest part (pos t.weight *ℤ is.0))
       (sum_more n ss s levels above part (rest -ℤ pos t.weight *ℤ is.0) h is.2),
 )
-
-pub selected_total : (levels first second third fourth sorted : List ℤ) (a b c d rest sum : ℤ) → IsSelected (length levels) (share 800 800) levels a first
-    → IsSelected (length levels) (share 500 800) first b second → IsSelected (length levels) (share 300 800) second c third
-    → IsSelected (length levels) (share 170 1680) third d fourth → IsPermutation fourth sorted → IsWeightedSum (length levels) (take 11 shares) sorted rest
-    → sum ≡ rest +ℤ d +ℤ c +ℤ b +ℤ a → IsSumOfPercentiles levels sum
-selected_total levels first second third fourth sorted a b c d rest sum p q r s moved is e =
-    let n = length levels in
-    let lowest = sum-permutation n (take 11 shares) sorted fourth rest (IsPermutation-sym fourth sorted moved) is in
-    let at_170 = sum_more n (take 11 shares) (share 170 1680) third fourth d rest s lowest in
-    let at_300 = sum_more n (take 12 shares) (share 300 800) second third c (rest +ℤ d) r at_170 in
-    let at_500 = sum_more n (take 13 shares) (share 500 800) first second b (rest +ℤ d +ℤ c) q at_300 in
-    let at_800 = sum_more n (take 14 shares) (share 800 800) levels first a (rest +ℤ d +ℤ c +ℤ b) p at_500 in
-    record { is = subst (λ (z : ℤ). IsWeightedSum n shares levels z) (sym e) at_800 }
 
 -- in another order
 pub sum_unsorted : (levels sorted : List ℤ) (sum : ℤ) → IsPermutation levels sorted → IsSumOfPercentiles sorted sum → IsSumOfPercentiles levels sum
@@ -120,41 +111,46 @@ sum_unsorted levels sorted sum moved h = record {
       (subst (λ (n : ℕ). IsWeightedSum n shares sorted sum) (length_permutation levels sorted moved) h.is);
 }
 
--- ---- the levels that were selected are ends
+-- where no end is wide
+pub narrow_sum : (narrow : List ℕ) (wide : List ℤ) (sum : ℤ) → length wide ≡ 0 → IsWeightedSum (length narrow) shares (map pos narrow) sum → IsSumOfPercentiles (together narrow wide) sum
+narrow_sum narrow (z ∷ wide) sum none h = absurd (omega arith)
+narrow_sum narrow [] sum none h =
+    let counted = subst (λ (n : ℕ). IsWeightedSum n shares (map pos narrow) sum) (sym (length-map narrow pos)) h in
+    record { is = subst (λ (zs : List ℤ). IsWeightedSum (length zs) shares zs sum) (sym (append-nil (map pos narrow))) counted }
 
-ends_moved : (levels front above : List ℤ) (x : ℤ) → IsPermutation levels (front ++ x ∷ above) → All IsLevelEnd levels → All IsLevelEnd (front ++ x ∷ above)
-ends_moved levels front above x moved ends = All-permutation IsLevelEnd levels (front ++ x ∷ above) moved ends
+-- ---- where the selected level stands
 
-pub end_at : (levels front above : List ℤ) (x : ℤ) → IsPermutation levels (front ++ x ∷ above) → All IsLevelEnd levels → IsLevelEnd x
-end_at levels front above x moved ends =
-    All-contains IsLevelEnd (front ++ x ∷ above) x (ends_moved levels front above x moved ends) (Contains-append_right front (x ∷ above) x (0, omega arith, refl))
-
-pub ends_above : (levels front above : List ℤ) (x : ℤ) → IsPermutation levels (front ++ x ∷ above) → All IsLevelEnd levels → All IsLevelEnd above
-ends_above levels front above x moved ends = λ k d less.
-    subst IsLevelEnd (get_or-append-add front (x ∷ above) (suc k) d)
-    (ends_moved levels front above x moved ends (length front + suc k) d (omega (arith, length-append front (x ∷ above), less)))
-
-pub place_is : (levels front above : List ℤ) (x : ℤ) (rank : ℕ) → IsPermutation levels (front ++ x ∷ above) → length front ≡ length levels - rank → 0 < rank → rank ≤ length levels
+pub place_is : (levels front above : List ℕ) (x rank : ℕ) → IsPermutation levels (front ++ x ∷ above) → length front ≡ length levels - rank → 0 < rank → rank ≤ length levels
     → length above + 1 ≡ rank
 place_is levels front above x rank moved at some fits = omega (arith, length-append front (x ∷ above), length_permutation levels (front ++ x ∷ above) moved, at, some, fits)
 
--- ---- those that are not selected
+-- ---- the ranks of the others are less
 
-abbrev AreLow : List Share → Type 0
-AreLow [] = Unit {0}
-AreLow (s ∷ ss) = (s.tenths ≤ 130) × AreLow ss
+-- the tenths of the last share are above all others'
+last_above : (low : ℕ) (ss : List Share) (s : Share) → RiseFrom low (ss ++ s ∷ []) → low < s.tenths
+last_above low [] s h = h.0
+last_above low (t ∷ ss) s h = omega (arith, h.0, last_above t.tenths ss s h.1)
 
-each_low : (ss : List Share) → AreLow ss → All (λ s. s.tenths ≤ 130) ss
-each_low [] h = All-nil (λ s. s.tenths ≤ 130)
-each_low (s ∷ ss) h = All-cons (λ t. t.tenths ≤ 130) s ss h.0 (each_low ss h.1)
+others_below : (low : ℕ) (ss : List Share) (s : Share) → RiseFrom low (ss ++ s ∷ []) → All (λ t. t.tenths < s.tenths) ss
+others_below low [] s h = All-nil (λ t. t.tenths < s.tenths)
+others_below low (t ∷ ss) s h = All-cons (λ u. u.tenths < s.tenths) t ss (last_above t.tenths ss s h.1) (others_below t.tenths ss s h.1)
 
-lowest_shares : AreLow (take 11 shares)
-lowest_shares = (omega arith, (omega arith, (omega arith, (omega arith, (omega arith, (omega arith, (omega arith, (omega arith, (omega arith, (omega arith, (omega arith, tt)))))))))))
+pub others_rise : (low : ℕ) (ss : List Share) (s : Share) → RiseFrom low (ss ++ s ∷ []) → RiseFrom low ss
+others_rise low [] s h = tt
+others_rise low (t ∷ ss) s h = (h.0, others_rise t.tenths ss s h.1)
 
--- they stand behind the last one that is
-pub lowest_within : (n m : ℕ) → 1000 ≤ n → m + 1 ≡ rank_of 170 n → AreWithin n m (take 11 shares)
-lowest_within n m many place = λ i d less.
-    let low = rank_of_≤ _ 130 n (each_low (take 11 shares) lowest_shares i d less) in
-    let first = ceil_least (130 * n) 1000 (omega arith) in
-    let last = ceil_within (170 * n) 1000 (omega arith) in
-    omega (arith, low, first, last, many, place)
+pub rising_shares : RiseFrom 0 shares
+rising_shares = (omega arith, (omega arith, (omega arith, (omega arith, (omega arith, (omega arith, (omega arith, (omega arith, (omega arith, (omega arith, (omega arith, (omega arith, (omega arith, (omega arith, (omega arith, tt)))))))))))))))
+
+rank_below : (j k n : ℕ) → 1000 ≤ n → j < k → rank_of j n < rank_of k n
+rank_below j k n many order =
+    let product : (j + 1) * n ≤ k * n = mul-le-mul_right n (let next : j + 1 ≤ k = omega (arith, order) in next) in
+    let low = ceil_least (j * n) 1000 (omega arith) in
+    let high = ceil_within (k * n) 1000 (omega arith) in
+    omega (arith, product, low, high, many)
+
+-- so all of them stand behind it
+pub others_within : (n m : ℕ) (ss : List Share) (s : Share) → 1000 ≤ n → RiseFrom 0 (ss ++ s ∷ []) → m + 1 ≡ rank_of s.tenths n → AreWithin n m ss
+others_within n m ss s many rise place = λ i d less.
+    let low = rank_below _ s.tenths n many (others_below 0 ss s rise i d less) in
+    omega (arith, low, place)

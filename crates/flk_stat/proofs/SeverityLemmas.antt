@@ -1,16 +1,17 @@
 -- The short-term severity: greater levels give no lesser one, there is one, and how it is computed from whole levels.
-use Rattle.std.proofs.Common.{◌≡◌, inl, inr, ℕ, zero, suc, ◌+◌, ◌*◌, ◌^◌, ◌<◌, ◌≤◌, List, [], ◌∷◌, length, map, get_or, ℤ, pos, ◌+ℤ◌, ◌-ℤ◌, ◌*ℤ◌, ◌≤ℤ◌, ◌<ℤ◌, refl, sym, subst, ◌∙◌, ⊎_elim, arith}
+use Rattle.std.proofs.Common.{◌≡◌, inl, inr, ℕ, zero, suc, ◌+◌, ◌*◌, ◌^◌, ◌<◌, ◌≤◌, List, [], ◌∷◌, length, map, get_or, take, ℤ, pos, ◌+ℤ◌, ◌-ℤ◌, ◌*ℤ◌, ◌≤ℤ◌, ◌<ℤ◌, refl, sym, subst, ◌∙◌, ⊎_elim, arith}
 use Rattle.std.specs.Prelude.{negsuc}
-use Rattle.std.specs.Int.{int_min}
-use Rattle.std.specs.Int.RustNames.{unsigned_abs}
+use Rattle.std.specs.Int.{int_min, w128}
+use Rattle.std.specs.Int.RustNames.{FitsSigned, unsigned_abs}
 use Rattle.std.specs.List.{All, AllZip, fold}
 use Rattle.std.specs.List.Sorted.{IsPermutation, IsSorted}
 use Rattle.std.specs.Ordering.{int_cmp}
 use Rattle.std.proofs.lemmas.Int.{ints, clamps, by_lt_z}
 use Rattle.std.proofs.lemmas.Nat.{mul-le}
-use Rattle.std.proofs.lemmas.List.{length-map}
-use Rattle.std.proofs.lemmas.List.Elements.{All-nil, All-cons, All-head, All-tail, All-contains}
+use Rattle.std.proofs.lemmas.List.{length-map, take_more}
+use Rattle.std.proofs.lemmas.List.Elements.{All-nil, All-cons, All-head, All-tail}
 use Rattle.std.proofs.lemmas.List.Sorted.{length_permutation}
+use Rattle.std.proofs.lemmas.List.Sums.{fold_push}
 use Rattle.flk_exact.specs.Rounding.{IsCeil, ceil_of, IsRootCeil}
 use Rattle.flk_exact.specs.Fraction.{Fraction, ◌≤ℚ◌, ◌+ℚ◌, ◌*ℚ◌, whole, units}
 use Rattle.flk_exact.proofs.WholeLemmas.{atom, nat, times_is, at_most, from_at_most, scale_≤}
@@ -21,8 +22,8 @@ use Rattle.flk_exact.proofs.NumeratorLemmas.{IsOver, over_own, over_sum, over_ti
 use Rattle.flk_exact.proofs.ListLemmas.{AllZip-weaker, AllZip-joined, AllZip-length}
 use Rattle.flk_stat.specs.declared.severity.Share.{Share}
 use Rattle.flk_stat.specs.Rank.{HasRank, is_less, rank_of}
-use Rattle.flk_stat.specs.Severity.{share, shares, IsPercentile, ArePercentiles, weighted, Reaches, IsCappedLeast, cap, IsSeverity, IsSeverityOfEnds}
-use Rattle.flk_stat.specs.Ranked.{IsLevelEnd, IsShare, AreWithin, ranked_at, weighted_total, IsWeightedSum, IsSumOfPercentiles, ReachesSum}
+use Rattle.flk_stat.specs.Severity.{share, shares, IsPercentile, ArePercentiles, weighted, Reaches, IsCappedLeast, cap, IsSeverity, IsSeverityOfEnds, IsLevelEnd}
+use Rattle.flk_stat.specs.Ranked.{IsShare, AreWithin, ranked_at, weighted_total, IsWeightedSum, IsSumOfPercentiles, ReachesSum}
 use Rattle.flk_stat.proofs.RankLemmas.{rank-permutation, rank_exists, AllZip-itself}
 use Rattle.flk_stat.proofs.PercentileLemmas.{fraction_order, rank_order, rank_in_units, rank_at, rank_in}
 
@@ -248,6 +249,15 @@ ranked_total xs n (s ∷ ss) some rises h fits =
           (ranked_total xs n ss some rises (All-tail IsShare s ss h) (All-tail (λ t. rank_of t.tenths n ≤ length xs) s ss fits)),
     )
 
+-- a share more
+pub total_more : (xs : List ℤ) (n i : ℕ) (ss : List Share) (d : Share) → i < length ss
+    → weighted_total xs n (take (i + 1) ss) ≡ weighted_total xs n (take i ss) +ℤ pos (get_or ss i d).weight *ℤ ranked_at xs n (get_or ss i d).tenths
+total_more xs n i ss d here = rw (take_more ss i d here) (fold_push (λ sum s. sum +ℤ pos s.weight *ℤ ranked_at xs n s.tenths) (pos 0) (take i ss) (get_or ss i d))
+
+-- some parts and one more fit 128 bits
+pub sum_fits : (sum part : ℤ) (i : ℕ) → i < 15 → pos 0 ≤ℤ sum → sum ≤ℤ pos (i * 2 ^ 104) → pos 0 ≤ℤ part → part ≤ℤ pos (2 ^ 104) → FitsSigned w128 (sum +ℤ part)
+sum_fits sum part i few low high part_low part_high = omega (arith, ints, few, low, high, part_low, part_high)
+
 -- in rising order
 pub rising_total : (xs : List ℤ) (n : ℕ) (ss : List Share) (sum : ℤ) → 0 < n → IsSorted int_cmp xs → All IsShare ss → AreWithin n (length xs) ss → sum ≡ weighted_total xs n ss
     → IsWeightedSum n ss xs sum
@@ -286,18 +296,7 @@ severity_is levels sum w is least =
       is_least = least_in_units (weighted shares h.percentiles) sum w h.over least;
     }
 
--- how great it is
-record IsSmallSum (k : ℕ) (sum : ℤ) : Type 0 where
-  low : pos 0 ≤ℤ sum
-  high : sum ≤ℤ pos (k * 2 ^ 104)
-
-small_sum : (n : ℕ) (ss : List Share) (levels : List ℤ) (sum : ℤ) → All IsLevelEnd levels → All IsShare ss → IsWeightedSum n ss levels sum → IsSmallSum (length ss) sum
-small_sum n [] levels sum ends h is = record { low = omega (arith, ints, is); high = omega (arith, ints, is) }
-small_sum n (s ∷ ss) levels sum ends h is =
-    let first = All-head IsShare s ss h in
-    let here = part_of s.weight is.0 first.light (All-contains IsLevelEnd levels is.0 ends is.1.member) in
-    let rest = small_sum n ss levels (sum -ℤ pos s.weight *ℤ is.0) ends (All-tail IsShare s ss h) is.2 in
-    record { low = omega (arith, ints, here.low, rest.low); high = omega (arith, ints, here.high, rest.high) }
+-- ---- the shares
 
 share_in : (k n : ℕ) → 0 < k → k ≤ 1000 → n ≤ 2 ^ 11 → IsShare (share k n)
 share_in k n low high light = record { low = low; high = high; light = light }
@@ -315,11 +314,6 @@ standard_shares = (share_in 1 942 (omega arith) (omega arith) (omega arith), (sh
 
 pub all_shares : All IsShare shares
 all_shares = each_share shares standard_shares
-
-pub sum_small : (levels : List ℤ) (sum : ℤ) → All IsLevelEnd levels → IsSumOfPercentiles levels sum → (pos 0 ≤ℤ sum) × (sum ≤ℤ pos (2 ^ 108))
-sum_small levels sum ends is =
-    let s = small_sum (length levels) shares levels sum ends all_shares is.is in
-    (s.low, omega (arith, ints, s.high))
 
 pub within_itself : (n : ℕ) (ss : List Share) → 0 < n → All IsShare ss → AreWithin n n ss
 within_itself n ss some h = λ i d less. (let s = h i d less in (rank_in _ n s.low s.high some).1)

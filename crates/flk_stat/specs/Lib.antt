@@ -1,3 +1,4 @@
+-- ---- what public contracts cite
 pub mod Smoothing
 pub mod Rounded
 pub mod Smooth
@@ -6,4 +7,6 @@ pub mod Rank
 pub mod Severity
 pub mod LongTerm
 pub mod Levels
+-- ---- what private ones cite besides
 pub mod Ranked
+pub mod ListOfEnds

@@ -1,20 +1,28 @@
 -- The ends of levels, in units of 2^-48, and what the code makes of them.
-use Rattle.std.specs.Prelude.{◌≡◌, ℕ, ◌+◌, ◌-◌, ◌^◌, ◌<◌, ◌≤◌, List, [], ◌∷◌, ◌++◌, length, int_lt, slice_index_or, ℤ, pos, ◌+ℤ◌, ◌-ℤ◌, ◌*ℤ◌, ◌≤ℤ◌, ◌<ℤ◌}
+use Rattle.std.specs.Prelude.{◌≡◌, ℕ, ◌+◌, ◌-◌, ◌^◌, ◌<◌, ◌≤◌, List, [], ◌∷◌, ◌++◌, length, map, int_lt, slice_index_or, ℤ, pos, ◌+ℤ◌, ◌-ℤ◌, ◌*ℤ◌, ◌≤ℤ◌, ◌<ℤ◌}
 use Rattle.std.specs.List.{All, fold}
 use Rattle.std.specs.List.Sorted.{IsPermutation, IsSplitAround}
-use Rattle.std.specs.Ordering.{int_cmp}
+use Rattle.std.specs.Ordering.{nat_cmp}
+use Rattle.flk_num.specs.declared.interval.Interval.{Interval}
+use Rattle.flk_num.specs.Interval.{lows, highs}
 use Rattle.flk_stat.specs.declared.severity.Share.{Share}
 use Rattle.flk_stat.specs.Rank.{HasRank, rank_of}
 use Rattle.flk_stat.specs.Severity.{shares}
 
--- an end of a level is from 0 to below 2^93
-pub record IsLevelEnd (z : ℤ) : Type 0 where
-  pub low : pos 0 ≤ℤ z
+-- an end of a level that needs more than 64 bits
+pub record IsWideEnd (z : ℤ) : Type 0 where
+  pub low : pos (2 ^ 64) ≤ℤ z
   pub high : z <ℤ pos (2 ^ 93)
 
--- each number of xs is at most the one of ys at the same place
-abbrev pub AreBelow : (xs ys : List ℤ) → Type 0
-AreBelow xs ys = (i : ℕ) (d : ℤ) → slice_index_or xs i d ≤ℤ slice_index_or ys i d
+-- ends of 64 bits and wide ones, together
+abbrev pub together : List ℕ → List ℤ → List ℤ
+together narrow wide = map pos narrow ++ wide
+
+-- the ends of the same levels, in any order
+pub record AreEndsOfLevels (low_ends high_ends : List ℤ) : Type 0 where
+  pub levels : List Interval
+  pub low : IsPermutation (lows levels) low_ends
+  pub high : IsPermutation (highs levels) high_ends
 
 -- where the percentile of k tenths of a percent of n levels stands in a list of the greatest of them in rising order
 abbrev pub ranked_at : List ℤ → (n k : ℕ) → ℤ
@@ -49,10 +57,15 @@ pub record IsSumOfPercentiles (levels : List ℤ) (sum : ℤ) : Type 0 where
   pub is : IsWeightedSum (length levels) shares levels sum
 
 -- of the levels the share's percentile x was selected: `part` is x times the weight, and `above` are the levels that it stands before
-pub record IsSelected (n : ℕ) (s : Share) (levels : List ℤ) (part : ℤ) (above : List ℤ) : Type 0 where
-  pub front : List ℤ
-  pub x : ℤ
+pub record IsSelected (n : ℕ) (s : Share) (levels : List ℕ) (part : ℤ) (above : List ℕ) : Type 0 where
+  pub front : List ℕ
+  pub x : ℕ
   pub moved : IsPermutation levels (front ++ x ∷ above)
-  pub split : IsSplitAround int_cmp front x above
+  pub split : IsSplitAround nat_cmp front x above
   pub place : length above + 1 ≡ rank_of s.tenths n
-  pub weighed : part ≡ pos s.weight *ℤ x
+  pub weighed : part ≡ pos s.weight *ℤ pos x
+
+-- the tenths of the shares rise from above a number
+abbrev pub RiseFrom : ℕ → List Share → Type 0
+RiseFrom low [] = Unit {0}
+RiseFrom low (s ∷ ss) = (low < s.tenths) × RiseFrom s.tenths ss

@@ -1,6 +1,6 @@
 -- The short-term flicker severity of IEC 61000-4-15 (Pst), in billionths. The rule of ranks, the rounding up to billionths and the cap are
 -- the project's own.
-use Rattle.std.specs.Prelude.{◌≡◌, ◌⊎◌, ℕ, List, [], ◌∷◌, length, map, ℤ, pos, ◌*ℤ◌, ◌≤ℤ◌}
+use Rattle.std.specs.Prelude.{◌≡◌, ◌⊎◌, ℕ, ◌^◌, List, [], ◌∷◌, length, map, ℤ, pos, ◌*ℤ◌, ◌≤ℤ◌, ◌<ℤ◌}
 use Rattle.std.specs.List.{AllZip}
 use Rattle.flk_exact.specs.Fraction.{Fraction, ◌≤ℚ◌, ◌+ℚ◌, ◌*ℚ◌, whole, units}
 use Rattle.flk_stat.specs.declared.severity.Share.{Share}
@@ -58,3 +58,8 @@ pub record IsSeverity (levels : List Fraction) (w : ℤ) : Type 0 where
 -- the same of levels in units of 2^-48
 abbrev pub IsSeverityOfEnds : List ℤ → ℤ → Type 0
 IsSeverityOfEnds levels w = IsSeverity (map units levels) w
+
+-- an end of a level, in units of 2^-48, is from 0 to below 2^93
+pub record IsLevelEnd (z : ℤ) : Type 0 where
+  pub low : pos 0 ≤ℤ z
+  pub high : z <ℤ pos (2 ^ 93)

@@ -1,64 +1,52 @@
 //! The levels of one interval.
 
-ghost use Rattle.std.specs.Prelude.{◌≡◌, ◌++◌, ◌∷◌, [], ◌+◌, ◌^◌, ◌<◌, ◌≤◌, List, length, IfOk, ℕ, ℤ, pos, ◌-ℤ◌, ◌≤ℤ◌, ◌<ℤ◌, vec_capacity};
+ghost use Rattle.std.specs.Prelude.{◌≡◌, ◌++◌, ◌∷◌, [], ◌+◌, ◌^◌, ◌<◌, ◌≤◌, List, length, IfOk, ℕ, ℤ, pos, ◌-ℤ◌, ◌≤ℤ◌, ◌<ℤ◌};
 ghost use Rattle.std.specs.List.{All};
+ghost use Rattle.std.specs.List.Sorted.{IsPermutation};
 ghost use Rattle.flk_exact.specs.Fraction.{Fraction, ◌≤ℚ◌, whole, units};
 ghost use Rattle.flk_exact.specs.Rounding.{IsBetween};
 ghost use Rattle.flk_num.specs.declared.interval.Interval.{Interval as IntervalView};
 ghost use Rattle.flk_num.specs.Interval.{HoldEach, lows as lows_of, highs as highs_of};
 ghost use Rattle.flk_stat.specs.Severity.{IsSeverity, IsSeverityOfEnds, cap};
 ghost use Rattle.flk_stat.specs.Width.{IsSpread, severity_width};
-ghost use Rattle.flk_stat.specs.Ranked.{IsLevelEnd, AreBelow};
+ghost use Rattle.flk_stat.specs.Ranked.{AreEndsOfLevels};
+ghost use Rattle.flk_stat.specs.ListOfEnds.{ends_of, capacity_of};
 
 use crate::OutOfMemory;
-use crate::selection::percentile_sum;
-use crate::severity::capped_root;
+use crate::list_of_ends::ListOfEnds;
 use flk_num::Interval;
 use std::alloc::Global;
 
-// The severity of some levels, which are let go.
-fn severity_of(levels: &mut Vec<i128>) -> i128
-    requires some { 0 < length levels.old.items }
-    requires levels { All IsLevelEnd levels.old.items }
-    ensures severity { IsSeverityOfEnds levels.old.items result }
-    ensures empty { levels.new.items ≡ [] }
-    ensures capacity { vec_capacity levels.new ≡ vec_capacity levels.old }
+// The severities of the lower and of the upper ends of some levels, which are let go.
+fn severities_of(lows: &mut ListOfEnds, highs: &mut ListOfEnds) -> Interval
+    requires some { 0 < length (ends_of lows.old) }
+    requires same { length (ends_of lows.old) ≡ length (ends_of highs.old) }
+    requires levels { ∥ AreEndsOfLevels (ends_of lows.old) (ends_of highs.old) ∥₁ }
+    ensures low { IsSeverityOfEnds (ends_of lows.old) result.lo }
+    ensures high { IsSeverityOfEnds (ends_of highs.old) result.hi }
+    ensures lows_empty { ends_of lows.new ≡ [] }
+    ensures highs_empty { ends_of highs.new ≡ [] }
+    ensures lows_capacity { capacity_of lows.new ≡ capacity_of lows.old }
+    ensures highs_capacity { capacity_of highs.new ≡ capacity_of highs.old }
 {
-    let severity = capped_root(percentile_sum(levels));
-    levels.clear();
-    severity
-}
-
-// The severities of the lower and of the upper ends, which are let go.
-fn severities_of(lows: &mut Vec<i128>, highs: &mut Vec<i128>) -> Interval
-    requires some { 0 < length lows.old.items }
-    requires same { length lows.old.items ≡ length highs.old.items }
-    requires lows { All IsLevelEnd lows.old.items }
-    requires highs { All IsLevelEnd highs.old.items }
-    requires ordered { AreBelow lows.old.items highs.old.items }
-    ensures low { IsSeverityOfEnds lows.old.items result.lo }
-    ensures high { IsSeverityOfEnds highs.old.items result.hi }
-    ensures lows_empty { lows.new.items ≡ [] }
-    ensures highs_empty { highs.new.items ≡ [] }
-    ensures lows_capacity { vec_capacity lows.new ≡ vec_capacity lows.old }
-    ensures highs_capacity { vec_capacity highs.new ≡ vec_capacity highs.old }
-{
-    let lo = severity_of(lows);
-    let hi = severity_of(highs);
+    let lo = lows.severity();
+    let hi = highs.severity();
     Interval { lo, hi }
 }
 
-// Puts the ends of a level to the others. There is room for them.
-fn push_ends(lows: &mut Vec<i128>, highs: &mut Vec<i128>, p: Interval)
-    requires lows_room { length lows.old.items < vec_capacity lows.old }
-    requires highs_room { length highs.old.items < vec_capacity highs.old }
-    ensures lows { lows.new.items ≡ lows.old.items ++ p.lo ∷ [] }
-    ensures highs { highs.new.items ≡ highs.old.items ++ p.hi ∷ [] }
-    ensures lows_capacity { vec_capacity lows.new ≡ vec_capacity lows.old }
-    ensures highs_capacity { vec_capacity highs.new ≡ vec_capacity highs.old }
+// Adds the ends of a level. There is room for them.
+fn add_ends(lows: &mut ListOfEnds, highs: &mut ListOfEnds, p: Interval)
+    requires lows_room { length (ends_of lows.old) < capacity_of lows.old }
+    requires highs_room { length (ends_of highs.old) < capacity_of highs.old }
+    requires low { pos 0 ≤ℤ p.lo }
+    requires high { p.hi <ℤ pos (2 ^ 93) }
+    ensures lows { IsPermutation (ends_of lows.old ++ p.lo ∷ []) (ends_of lows.new) }
+    ensures highs { IsPermutation (ends_of highs.old ++ p.hi ∷ []) (ends_of highs.new) }
+    ensures lows_capacity { capacity_of lows.new ≡ capacity_of lows.old }
+    ensures highs_capacity { capacity_of highs.new ≡ capacity_of highs.old }
 {
-    lows.push_reserved(p.lo);
-    highs.push_reserved(p.hi);
+    lows.add(p.lo);
+    highs.add(p.hi);
 }
 
 /// The levels of one interval, for which room was made once.
@@ -66,16 +54,16 @@ fn push_ends(lows: &mut Vec<i128>, highs: &mut Vec<i128>, p: Interval)
 pub struct Levels {
     // How many levels an interval has.
     size: usize,
-    lows: Vec<i128>,
-    highs: Vec<i128>,
+    // How many may still be added.
+    room: usize,
+    lows: ListOfEnds,
+    highs: ListOfEnds,
     ghost some: { 0 < size },
-    ghost same: { length lows.items ≡ length highs.items },
-    ghost within: { length lows.items ≤ size },
-    ghost lows_fit: { size ≤ vec_capacity lows },
-    ghost highs_fit: { size ≤ vec_capacity highs },
-    ghost lows_range: { All IsLevelEnd lows.items },
-    ghost highs_range: { All IsLevelEnd highs.items },
-    ghost ordered: { AreBelow lows.items highs.items },
+    ghost lows_count: { length (ends_of lows) + room ≡ size },
+    ghost highs_count: { length (ends_of highs) + room ≡ size },
+    ghost lows_fit: { size ≤ capacity_of lows },
+    ghost highs_fit: { size ≤ capacity_of highs },
+    ghost levels: { ∥ AreEndsOfLevels (ends_of lows) (ends_of highs) ∥₁ },
 }
 
 impl Levels {
@@ -89,8 +77,9 @@ impl Levels {
     {
         Ok(Levels {
             size: n,
-            lows: Vec::with_capacity(alloc, n)?,
-            highs: Vec::with_capacity(alloc, n)?,
+            room: n,
+            lows: ListOfEnds::with_room(alloc, n)?,
+            highs: ListOfEnds::with_room(alloc, n)?,
         })
     }
 
@@ -98,7 +87,7 @@ impl Levels {
     pub fn room(&self) -> usize
         ensures { result ≡ room_of self.now }
     {
-        self.size - self.lows.len()
+        self.room
     }
 
     /// Adds the next level, an interval from 0 to below 2^93 in units of 2^-48. There is room for it. Takes no memory.
@@ -110,7 +99,8 @@ impl Levels {
         ensures room { room_of self.new + 1 ≡ room_of self.old }
         ensures added { (n : ℕ) (ls : List IntervalView) → Added self.old n ls → Added self.new n (ls ++ p ∷ []) }
     {
-        push_ends(&mut self.lows, &mut self.highs, p);
+        add_ends(&mut self.lows, &mut self.highs, p);
+        self.room -= 1;
     }
 
     /// Ends the interval, whose room is used up, and answers the interval of its short-term severity in billionths, from 0 to 10^12: the
@@ -133,6 +123,8 @@ impl Levels {
         ensures low { pos 0 ≤ℤ result.lo }
         ensures high { result.hi ≤ℤ cap }
     {
-        severities_of(&mut self.lows, &mut self.highs)
+        let severities = severities_of(&mut self.lows, &mut self.highs);
+        self.room = self.size;
+        severities
     }
 }

@@ -12,6 +12,7 @@
 mod ends;
 mod laws;
 mod levels;
+mod list_of_ends;
 mod long_term;
 mod rank;
 mod selection;

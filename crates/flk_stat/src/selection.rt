@@ -1,73 +1,75 @@
 //! The percentiles of levels in any order.
 
-ghost use Rattle.std.specs.Prelude.{◌≡◌, ◌^◌, ◌<◌, ◌≤◌, length, pos, ◌+ℤ◌, ◌≤ℤ◌};
+ghost use Rattle.std.specs.Prelude.{◌≡◌, ◌+◌, ◌*◌, ◌^◌, ◌<◌, ◌≤◌, length, map, pos, ◌≤ℤ◌};
 ghost use Rattle.std.specs.List.{All};
+ghost use Rattle.std.specs.List.Sorted.{IsPermutation, IsSorted};
+ghost use Rattle.std.specs.Ordering.{int_cmp};
 ghost use Rattle.flk_stat.specs.Rank.{rank_of};
-ghost use Rattle.flk_stat.specs.Ranked.{IsLevelEnd, IsShare, IsSelected, IsSumOfPercentiles};
+ghost use Rattle.flk_stat.specs.Severity.{IsLevelEnd};
+ghost use Rattle.flk_stat.specs.Ranked.{IsWideEnd, IsShare, AreWithin, RiseFrom, together, IsSelected, IsWeightedSum, IsSumOfPercentiles};
 
 use crate::rank::rank;
-use crate::severity::{SHARES, Share, rising_sum, weighed, weighted_sum};
+use crate::severity::{SHARES, Share, rising_sum, weighed};
 
 // Selects a percentile of n levels, of which the greatest are given in any order: it, times its weight, and the levels that it stands
 // before in rising order.
-fn selected(levels: &mut [i128], n: usize, share: Share) -> (i128, &mut [i128])
+fn selected(levels: &mut [u64], n: usize, share: Share) -> (i128, &mut [u64])
     requires some { 0 < n }
-    requires levels { All IsLevelEnd levels.old }
     requires share { IsShare share }
     requires within { rank_of share.tenths n ≤ length levels.old }
     ensures selected { IsSelected n share levels.old result.0 result.1.now }
-    ensures levels { All IsLevelEnd result.1.now }
     ensures low { pos 0 ≤ℤ result.0 }
     ensures high { result.0 ≤ℤ pos (2 ^ 104) }
 {
     let place = levels.len() - rank(share.tenths, n);
     let (_, level, above) = levels.select_nth_unstable(place);
-    (weighed(*level, share), above)
+    (weighed(i128::from(*level), share), above)
 }
 
-// The percentiles that were selected, and the sum of the others.
-fn joined(rest: i128, first: i128, second: i128, third: i128, fourth: i128) -> i128
-    requires rest_low { pos 0 ≤ℤ rest }
-    requires rest_high { rest ≤ℤ pos (2 ^ 108) }
-    requires first_low { pos 0 ≤ℤ first }
-    requires first_high { first ≤ℤ pos (2 ^ 104) }
-    requires second_low { pos 0 ≤ℤ second }
-    requires second_high { second ≤ℤ pos (2 ^ 104) }
-    requires third_low { pos 0 ≤ℤ third }
-    requires third_high { third ≤ℤ pos (2 ^ 104) }
-    requires fourth_low { pos 0 ≤ℤ fourth }
-    requires fourth_high { fourth ≤ℤ pos (2 ^ 104) }
-    ensures { result ≡ rest +ℤ fourth +ℤ third +ℤ second +ℤ first }
+// The sum of some percentiles of n levels, each times its weight. The greatest of the levels are given in any order, as many as the
+// percentiles need. The percentile that most levels are above is selected first, each other one among the levels above the last.
+fn selected_sum(levels: &mut [u64], n: usize, shares: &[Share]) -> i128
+    requires many { 1000 ≤ n }
+    requires shares { All IsShare shares.now }
+    requires rise { RiseFrom 0 shares.now }
+    requires within { AreWithin n (length levels.old) shares.now }
+    requires few { length shares.now ≤ 15 }
+    ensures sum { IsWeightedSum n shares.now (map pos levels.old) result }
+    ensures low { pos 0 ≤ℤ result }
+    ensures high { result ≤ℤ pos (length shares.now * 2 ^ 104) }
 {
-    rest + fourth + third + second + first
+    let Some((share, others)) = shares.split_last() else {
+        return 0;
+    };
+    let (part, above) = selected(levels, n, *share);
+    selected_sum(above, n, others) + part
 }
 
-// The sum of the percentiles, each times its weight. Those that many levels are below are selected one after the other, each among the
-// levels above the last one; only the levels above them are sorted.
-fn selected_sum(levels: &mut [i128]) -> i128
-    requires many { 1000 ≤ length levels.old }
-    requires levels { All IsLevelEnd levels.old }
-    ensures { IsSumOfPercentiles levels.old result }
+// Puts levels in rising order: those that fit 64 bits, and behind them the others.
+fn sort(narrow: &mut [u64], wide: &mut [i128])
+    requires wide { All IsWideEnd wide.old }
+    ensures rises { IsSorted int_cmp (together narrow.new wide.new) }
+    ensures same { IsPermutation (together narrow.old wide.old) (together narrow.new wide.new) }
+    ensures counts { (length narrow.new ≡ length narrow.old) × (length wide.new ≡ length wide.old) }
+    ensures levels { All IsLevelEnd wide.new }
 {
-    let n = levels.len();
-    let (first, above) = selected(levels, n, SHARES[14]);
-    let (second, above) = selected(above, n, SHARES[13]);
-    let (third, above) = selected(above, n, SHARES[12]);
-    let (fourth, above) = selected(above, n, SHARES[11]);
-    above.sort_unstable();
-    let rest = weighted_sum(above, n, &SHARES[..11]);
-    joined(rest, first, second, third, fourth)
+    narrow.sort_unstable();
+    wide.sort_unstable();
 }
 
-/// The sum of the percentiles of levels in any order, each times its weight. The levels are left in some other order.
-pub(crate) fn percentile_sum(levels: &mut [i128]) -> i128
-    requires some { 0 < length levels.old }
-    requires levels { All IsLevelEnd levels.old }
-    ensures { IsSumOfPercentiles levels.old result }
+/// The sum of the percentiles of levels in any order, each times its weight: of those that fit 64 bits, and of the others. The levels are
+/// left in some other order.
+pub(crate) fn percentile_sum(narrow: &mut [u64], wide: &mut [i128]) -> i128
+    requires some { 0 < length narrow.old + length wide.old }
+    requires wide { All IsWideEnd wide.old }
+    ensures sum { IsSumOfPercentiles (together narrow.old wide.old) result }
+    ensures low { pos 0 ≤ℤ result }
+    ensures high { result ≤ℤ pos (2 ^ 108) }
 {
-    if levels.len() < 1000 {
-        levels.sort_unstable();
-        return rising_sum(levels);
+    if wide.is_empty() && 1000 <= narrow.len() {
+        let n = narrow.len();
+        return selected_sum(narrow, n, &SHARES);
     }
-    selected_sum(levels)
+    sort(narrow, wide);
+    rising_sum(narrow, wide)
 }

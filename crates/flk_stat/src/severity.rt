@@ -1,11 +1,11 @@
 //! The short-term flicker severity.
 
-ghost use Rattle.std.specs.Prelude.{◌≡◌, ◌*◌, ◌^◌, ◌<◌, ◌≤◌, List, length, pos, ◌*ℤ◌, ◌≤ℤ◌, ◌<ℤ◌};
+ghost use Rattle.std.specs.Prelude.{◌≡◌, ◌+◌, ◌*◌, ◌^◌, ◌<◌, ◌≤◌, List, length, pos, ◌*ℤ◌, ◌≤ℤ◌, ◌<ℤ◌};
 ghost use Rattle.std.specs.List.{All};
 ghost use Rattle.std.specs.List.Sorted.{IsSorted};
 ghost use Rattle.std.specs.Ordering.{int_cmp};
-ghost use Rattle.flk_stat.specs.Severity.{IsCappedLeast, cap, IsSeverityOfEnds};
-ghost use Rattle.flk_stat.specs.Ranked.{IsLevelEnd, IsShare, AreWithin, ranked_at, weighted_total, IsSumOfPercentiles, ReachesSum};
+ghost use Rattle.flk_stat.specs.Severity.{IsCappedLeast, cap, IsLevelEnd, IsSeverityOfEnds};
+ghost use Rattle.flk_stat.specs.Ranked.{IsShare, AreWithin, together, ranked_at, weighted_total, IsSumOfPercentiles, ReachesSum};
 ghost use Rattle.flk_stat.specs.Rank.{rank_of};
 
 use crate::rank::ranked;
@@ -95,36 +95,18 @@ pub(crate) fn weighed(level: i128, share: Share) -> i128
     i128::from(share.weight) * level
 }
 
-// A percentile of n levels, of which the greatest are given, times its weight.
-fn part(rising: &[i128], n: usize, share: Share) -> i128
-    requires some { 0 < n }
-    requires levels { All IsLevelEnd rising.now }
+// A percentile of levels in rising order, times its weight. First come the levels that fit 64 bits, then the others.
+fn part(narrow: &[u64], wide: &[i128], share: Share) -> i128
+    requires some { 0 < length narrow.now + length wide.now }
+    requires levels { All IsLevelEnd wide.now }
     requires share { IsShare share }
-    requires within { rank_of share.tenths n ≤ length rising.now }
-    ensures value { result ≡ pos share.weight *ℤ ranked_at rising.now n share.tenths }
+    ensures value { result ≡ pos share.weight
+        *ℤ ranked_at (together narrow.now wide.now) (length narrow.now + length wide.now) share.tenths }
     ensures low { pos 0 ≤ℤ result }
     ensures high { result ≤ℤ pos (2 ^ 104) }
 {
-    weighed(ranked(rising, n, share.tenths), share)
-}
-
-/// The sum of some percentiles of n levels, each times its weight. The greatest of the levels are given in rising order, as many as the
-/// percentiles need.
-pub(crate) fn weighted_sum(rising: &[i128], n: usize, shares: &[Share]) -> i128
-    requires some { 0 < n }
-    requires levels { All IsLevelEnd rising.now }
-    requires shares { All IsShare shares.now }
-    requires within { AreWithin n (length rising.now) shares.now }
-    requires few { length shares.now ≤ 15 }
-    ensures value { result ≡ weighted_total rising.now n shares.now }
-    ensures low { pos 0 ≤ℤ result }
-    ensures high { result ≤ℤ pos (2 ^ 108) }
-{
-    let mut sum: i128 = 0;
-    for share in shares {
-        sum += part(rising, n, *share);
-    }
-    sum
+    let n = narrow.len() + wide.len();
+    weighed(ranked(narrow, wide, n, share.tenths), share)
 }
 
 // 1000, in billionths.
@@ -140,16 +122,20 @@ pub(crate) fn capped_root(sum: i128) -> i128
     root_ceil(scaled_ceil(sum, 6_103_515_625, 51_539_607_552)).min(CAP)
 }
 
-/// The sum of the percentiles of levels in rising order, each times its weight.
-pub(crate) fn rising_sum(rising: &[i128]) -> i128
-    requires some { 0 < length rising.now }
-    requires rises { IsSorted int_cmp rising.now }
-    requires levels { All IsLevelEnd rising.now }
-    ensures sum { IsSumOfPercentiles rising.now result }
+/// The sum of the percentiles of levels in rising order, each times its weight. First come the levels that fit 64 bits, then the others.
+pub(crate) fn rising_sum(narrow: &[u64], wide: &[i128]) -> i128
+    requires some { 0 < length narrow.now + length wide.now }
+    requires rises { IsSorted int_cmp (together narrow.now wide.now) }
+    requires levels { All IsLevelEnd wide.now }
+    ensures sum { IsSumOfPercentiles (together narrow.now wide.now) result }
     ensures low { pos 0 ≤ℤ result }
     ensures high { result ≤ℤ pos (2 ^ 108) }
 {
-    weighted_sum(rising, rising.len(), &SHARES)
+    let mut sum: i128 = 0;
+    for share in &SHARES {
+        sum += part(narrow, wide, *share);
+    }
+    sum
 }
 
 /// The short-term severity Pst of IEC 61000-4-15, in billionths, from 0 to 10^12: the square root of the weighted sum of 15 percentiles,
@@ -161,5 +147,5 @@ pub fn pst(rising: &[i128]) -> i128
     requires levels { All IsLevelEnd rising.now }
     ensures { IsSeverityOfEnds rising.now result }
 {
-    capped_root(rising_sum(rising))
+    capped_root(rising_sum(&[], rising))
 }

@@ -2,8 +2,7 @@
 
 ghost use Rattle.std.specs.Prelude.{pos};
 ghost use Rattle.flk_exact.specs.Rounding.{IsBetween};
-ghost use Rattle.flk_stat.specs.Severity.{cap};
-ghost use Rattle.flk_stat.specs.Ranked.{IsLevelEnd};
+ghost use Rattle.flk_stat.specs.Severity.{cap, IsLevelEnd};
 
 use crate::{Levels, Smooth, percentile, plt, pst};
 use flk_front::Point;
@@ -208,6 +207,34 @@ fn levels_in_no_order(rt: HostRuntime) -> Result<(), Fail> {
         Some(Interval {
             lo: 920_504_632,
             hi: 920_504_633
+        })
+    );
+    Ok(())
+}
+
+// Adds a level from 2^64 - 700 * 2^54 upward, in steps of 2^54, where there is room. Its upper end is 2^52 greater.
+fn add_great_level(levels: &mut Levels, steps: u32) {
+    if 0 < levels.room() {
+        let lo = 5_836_665_117_072_162_816 + i128::from(steps) * 18_014_398_509_481_984;
+        levels.add(Interval {
+            lo,
+            hi: lo + 4_503_599_627_370_496,
+        });
+    }
+}
+
+// 300 levels are at least 2^64: P30 of the lower ends is just that.
+#[test]
+fn levels_on_both_sides_of_64_bits(rt: HostRuntime) -> Result<(), Fail> {
+    let mut levels = Levels::new(rt.alloc(), 1000)?;
+    for i in 0..1000u32 {
+        add_great_level(&mut levels, i * 701 % 1000);
+    }
+    assert_eq!(rt;
+        severity_at_end(&mut levels),
+        Some(Interval {
+            lo: 195_828_093_320,
+            hi: 195_848_910_473
         })
     );
     Ok(())

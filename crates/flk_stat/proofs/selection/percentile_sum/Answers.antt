@@ -1,24 +1,38 @@
-use Rattle.std.proofs.Common.{rules, ℤ, FitsSigned}
+use Rattle.std.proofs.Common.{rules, arith, ◌≡◌, ℕ, ◌*◌, ◌^◌, Bool, true, List, length, map, ℤ, pos, ◌≤ℤ◌, FitsSigned}
+use Rattle.std.specs.Bool.{◌==◌}
 use Rattle.std.specs.Int.{w128}
-use Rattle.std.proofs.lemmas.Int.{to_z-of_z}
-use Rattle.std.proofs.lemmas.List.Sorted.{All-permutation}
-use Rattle.flk_stat.specs.Ranked.{IsLevelEnd, IsSumOfPercentiles}
-use Rattle.flk_stat.proofs.SelectionLemmas.{sum_unsorted}
+use Rattle.std.proofs.lemmas.Bool.Decides.{nat_tests}
+use Rattle.std.proofs.lemmas.Int.{ints, to_z-of_z}
+use Rattle.flk_stat.specs.Severity.{shares}
+use Rattle.flk_stat.specs.Ranked.{together, IsWeightedSum, IsSumOfPercentiles}
+use Rattle.flk_stat.proofs.SelectionLemmas.{narrow_sum, sum_unsorted}
 use Rattle.flk_stat.proofs.selection.percentile_sum.Goals as goal
 
-pub rising_sum-requires-clause-levels : goal.rising_sum-requires-clause-levels
-rising_sum-requires-clause-levels c = All-permutation IsLevelEnd c.args.levels.now c.sort_unstable.new.self c.sort_unstable.ensures.permutation c.requires.levels
+empty : (n : ℕ) (b : Bool) → b ≡ (n == 0) → b ≡ true → n ≡ 0
+empty n b is held = grind (arith, nat_tests)
 
-pub returns-then-levels-lt1000 : goal.returns-then-levels-lt1000
-returns-then-levels-lt1000 c =
-    let z : ℤ = c.rising_sum.result in
-    let fits : FitsSigned w128 z = search rules in
-    let sum : IsSumOfPercentiles c.sort_unstable.new.self z = search rules in
-    rw (to_z-of_z w128 z fits) (sum_unsorted c.args.levels.now c.sort_unstable.new.self z c.sort_unstable.ensures.permutation sum)
-
-pub returns : goal.returns
-returns c =
+pub returns-then-narrow-ge1000-clause-sum : goal.returns-then-narrow-ge1000-clause-sum
+returns-then-narrow-ge1000-clause-sum c =
+    let narrow : List ℕ = c.args.narrow.now in
+    let wide : List ℤ = c.args.wide.now in
     let z : ℤ = c.selected_sum.result in
     let fits : FitsSigned w128 z = search rules in
-    let sum : IsSumOfPercentiles c.args.levels.now z = search rules in
-    rw (to_z-of_z w128 z fits) sum
+    let none = empty (length wide) c.is_empty.result c.is_empty.ensures c.if-is_empty.true in
+    let sum : IsWeightedSum (length narrow) shares (map pos narrow) z = search rules in
+    rw (to_z-of_z w128 z fits) (narrow_sum narrow wide z none sum)
+
+pub returns-then-narrow-ge1000-clause-high : goal.returns-then-narrow-ge1000-clause-high
+returns-then-narrow-ge1000-clause-high c =
+    let z : ℤ = c.selected_sum.result in
+    let fits : FitsSigned w128 z = search rules in
+    let high : z ≤ℤ pos (15 * 2 ^ 104) = search rules in
+    rw (to_z-of_z w128 z fits) (omega (arith, ints, high))
+
+pub returns-clause-sum : goal.returns-clause-sum
+returns-clause-sum c =
+    let all : List ℤ = together c.args.narrow.now c.args.wide.now in
+    let sorted : List ℤ = together c.sort.new.narrow c.sort.new.wide in
+    let z : ℤ = c.rising_sum.result in
+    let fits : FitsSigned w128 z = search rules in
+    let sum : IsSumOfPercentiles sorted z = search rules in
+    rw (to_z-of_z w128 z fits) (sum_unsorted all sorted z c.sort.ensures.same sum)
