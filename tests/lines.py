@@ -3,16 +3,19 @@
 
     python3 tests/lines.py PROGRAM
 
-An example is a block that begins with `$ flicker WORDS`, and runs in the folder of examples/ or of tests/cases/ that the text named last.
+An example is a block that begins with `$ flicker WORDS`, and runs in a copy of the folder of examples/ or of tests/cases/ that the text named last.
 A line `..` in it stands for any lines. PROGRAM may be `"python3 tests/reference.py"`. Ends with status 1 where something differs."""
 import os
 import re
 import shlex
+import shutil
 import subprocess
 import sys
+import tempfile
 
 TOP = os.path.dirname(os.path.dirname(os.path.abspath(__file__)))
-SPECS = ["flk_top/specs/Faults.antt", "flk_top/specs/Text.antt", "flk_top/specs/Tables.antt", "flk_report/specs/Report.antt"]
+SPECS = ["flk_top/specs/Faults.antt", "flk_top/specs/Text.antt", "flk_top/specs/Tables.antt", "flk_top/specs/GenDue.antt",
+         "flk_report/specs/Report.antt"]
 
 
 def read(*path):
@@ -61,7 +64,9 @@ def main():
     for name in ("docs/LINES.md", "README.md"):
         for folder, words, wanted in examples(name):
             count += 1
-            run = subprocess.run(program + words, cwd=os.path.join(TOP, folder or "examples"), capture_output=True, text=True, timeout=60)
+            with tempfile.TemporaryDirectory() as work:
+                shutil.copytree(os.path.join(TOP, folder or "examples"), work, dirs_exist_ok=True)
+                run = subprocess.run(program + words, cwd=work, capture_output=True, text=True, timeout=60)
             if run.stderr or not fits(wanted, run.stdout):
                 wrong += 1
                 print("%s, %s: printed %r %r" % (name, " ".join(words), run.stdout, run.stderr))

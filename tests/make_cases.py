@@ -33,9 +33,13 @@ class Group:
         self.count += 1
         for keyword, content in files.items():
             write(os.path.join(folder, ".".join(keyword.rsplit("_", 1))), content)
+        given = set(os.listdir(folder))
         os.chdir(folder)
         text, status = reference.answer(words.split(" "))
         os.chdir(CASES)
+        for made in sorted(set(os.listdir(folder)) - given):
+            os.makedirs(os.path.join(folder, "expect.files"), exist_ok=True)
+            os.rename(os.path.join(folder, made), os.path.join(folder, "expect.files", made))
         for kind, content in (("args", words.replace(" ", "\n") + "\n"), ("expect.out", text), ("expect.status", "%d\n" % status),
                               ("note", note + "\n")):
             write(os.path.join(folder, kind), content)
@@ -273,10 +277,15 @@ def others():
     for name, words in (("no_lamp", "tables"), ("other_lamp", "tables 230/60"), ("other_rate", "tables 230/50 9600"),
                         ("long", "tables 230/50 2400 1")):
         group.case(name, "words that no command has", words)
+    generated = Group("gen")
+    generated.case("second", "one second of seed 1", "gen 1 1 c.cfg d.dat")
+    for name, note, words in (("no_second", "no second at all", "gen 1 0 c.cfg d.dat"), ("long", "8001 seconds", "gen 1 8001 c.cfg d.dat"),
+                              ("great_seed", "a seed of 2^32", "gen 4294967296 1 c.cfg d.dat"), ("same_names", "one name twice", "gen 1 1 c c")):
+        generated.case(name, note, words)
     usage = Group("usage")
     for name, words in USAGE:
         usage.case(name, "words that no command has", words)
-    return group.count + usage.count
+    return group.count + generated.count + usage.count
 
 
 def main():

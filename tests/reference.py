@@ -1,10 +1,11 @@
 #!/usr/bin/env python3
-"""An independent implementation of the commands `report`, `levels`, `check` and `tables`, to compare the program with.
+"""An independent implementation of the commands `report`, `levels`, `check`, `tables` and `gen`, to compare the program with.
 
     python3 tests/reference.py report JOB CFG DAT WORKERS
     python3 tests/reference.py tables LAMP [RATE]
     python3 tests/reference.py levels CFG DAT CHANNEL NOMINAL_MV UNCERTAINTY_UV
     python3 tests/reference.py check CFG DAT
+    python3 tests/reference.py gen SEED SECONDS CFG DAT
 
 Prints the command's text and ends with its status. Whole numbers and the standard library alone; nothing here was
 taken from the program. It reads the files whole, and a want of memory or a failed write isn't looked at."""
@@ -14,6 +15,7 @@ import sys
 sys.dont_write_bytecode = True
 import reference_changes as changes  # noqa: E402
 import reference_filters as filters  # noqa: E402
+import reference_generated as generated  # noqa: E402
 from reference_files import Fault, decimal_text, read_configuration, read_data, read_job  # noqa: E402
 
 WORD = re.compile(r"[0-9]{1,10}")
@@ -233,7 +235,21 @@ def report(words):
     return lines + ["verdict " + last], {"pass": 0, "fail": 1, "undecided": 3}[last]
 
 
-COMMANDS = {"report": report, "tables": tables, "levels": levels, "check": check}
+def gen(words):
+    if len(words) != 4:
+        usage()
+    seed = number_word(words[0], 0, 2 ** 32 - 1)
+    seconds = number_word(words[1], 1, 8000)
+    if words[2] == words[3]:
+        usage()
+    text, last = generated.data(seed, seconds)
+    for name, content in ((words[2], generated.configuration(seconds)), (words[3], text)):
+        with open(name, "w", encoding="ascii", newline="") as file:
+            file.write(content)
+    return ["gen", "records %d" % (2400 * seconds), "last %d %d %d" % last], 0
+
+
+COMMANDS = {"report": report, "tables": tables, "levels": levels, "check": check, "gen": gen}
 
 
 def answer(words):

@@ -1,1 +1,5 @@
 pub mod ValueBounds
+pub mod ConfigurationLemmas
+pub mod RecordingLemmas
+mod RowLemmas
+pub mod AcceptedFiles

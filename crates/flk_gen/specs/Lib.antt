@@ -1,2 +1,4 @@
 pub mod Workload
 pub mod Stands
+pub mod Recording
+pub mod Progress

@@ -35,7 +35,8 @@ pub(crate) fn wave(place: usize) -> i32
 pub(crate) fn lowered(value: i32, depth: u32) -> i32
     requires value { unsigned_abs value < 2 ^ 16 }
     requires depth { depth < 10 }
-    ensures { result ≡ lowered value depth }
+    ensures value { result ≡ lowered value depth }
+    ensures small { unsigned_abs result ≤ 65536 }
 {
     (value * (1000 - depth as i32)).div_euclid(1000)
 }

@@ -1,6 +1,6 @@
 //! The samples, one after the other.
 
-ghost use Rattle.std.specs.Prelude.{◌≡◌, ℕ, ◌+◌, ◌*◌, ◌/◌, ◌%◌, ◌<◌, ◌≤◌, IfSome, IfNone};
+ghost use Rattle.std.specs.Prelude.{◌≡◌, ℕ, ◌+◌, ◌*◌, ◌/◌, ◌%◌, ◌<◌, ◌≤◌, All, unsigned_abs, IfSome, IfNone};
 ghost use Rattle.flk_gen.specs.Workload.{draw, shift, value, values};
 
 use crate::draws::{depth, next_draw};
@@ -32,10 +32,11 @@ pub struct Workload {
     all: u32,
     ghost early: { place < 1200 },
     ghost within: { given ≤ all },
+    ghost few: { all ≤ 19200000 },
 }
 
 impl Workload {
-    ghost use Rattle.flk_gen.specs.Stands.{Stands};
+    ghost use Rattle.flk_gen.specs.Stands.{Stands, samples_left};
 
     /// The recording of this seed, of 1 to 8000 seconds.
     pub fn new(seed: u32, seconds: u32) -> Workload
@@ -59,6 +60,9 @@ impl Workload {
             → IfSome result (λ v. (n < all) × (v ≡ values seed n) × Stands self.new seed all (n + 1)) }
         ensures none { (seed all n : ℕ) → Stands self.old seed all n
             → IfNone result ((n ≡ all) × Stands self.new seed all n) }
+        ensures small { IfSome result (All (λ z. unsigned_abs z ≤ 65536)) }
+        ensures fewer { IfSome result (λ v. samples_left self.new < samples_left self.old) }
+        ensures kept { IfNone result (samples_left self.new ≡ samples_left self.old) }
     {
         if self.given == self.all {
             return None;
@@ -68,10 +72,19 @@ impl Workload {
         Some(sample)
     }
 
+    /// How many samples were given.
+    pub fn given(&self) -> u32
+        ensures given { (seed all n : ℕ) → Stands self.now seed all n → result ≡ n }
+        ensures few { result ≤ 19200000 }
+    {
+        self.given
+    }
+
     // The value of a channel at the next sample.
     fn value(&self, channel: u32) -> i32
         requires { channel < 3 }
-        ensures { (seed all n : ℕ) → Stands self.now seed all n → result ≡ value seed channel n }
+        ensures value { (seed all n : ℕ) → Stands self.now seed all n → result ≡ value seed channel n }
+        ensures small { unsigned_abs result ≤ 65536 }
     {
         let ahead = shift(channel);
         let draw = self.draw_ahead(ahead);
@@ -102,7 +115,8 @@ impl Workload {
     // Goes on to the sample after the next one.
     fn step(&mut self)
         requires { self.old.given < self.old.all }
-        ensures { (seed all n : ℕ) → Stands self.old seed all n → Stands self.new seed all (n + 1) }
+        ensures stands { (seed all n : ℕ) → Stands self.old seed all n → Stands self.new seed all (n + 1) }
+        ensures fewer { samples_left self.new < samples_left self.old }
     {
         self.given += 1;
         self.place += 1;

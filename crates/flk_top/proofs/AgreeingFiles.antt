@@ -46,10 +46,10 @@ files_with left [] contents name = told_or_none (left name)
 files_with left (n ∷ names) [] name = told_or_none (left name)
 files_with left (n ∷ names) (bytes ∷ contents) name = if bytes_eq n name then bytes else files_with left names contents name
 
-is_itself : (xs : List ℕ) → bytes_eq xs xs ≡ true
+pub is_itself : (xs : List ℕ) → bytes_eq xs xs ≡ true
 is_itself xs = (bytes_eq-Decides xs xs).1 refl
 
-is_other : (xs ys : List ℕ) → xs ≢ ys → bytes_eq xs ys ≡ false
+pub is_other : (xs ys : List ℕ) → xs ≢ ys → bytes_eq xs ys ≡ false
 is_other xs ys differ = false_from_ne_true (bytes_eq xs ys) (λ e. differ (equal_names xs ys e))
 
 pub files_agree : (left : List ℕ → Option (List ℕ)) (names contents : List (List ℕ)) → AllZip MayHold (map left names) contents → (name : List ℕ)

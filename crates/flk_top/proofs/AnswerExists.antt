@@ -15,9 +15,10 @@ use Rattle.flk_dat.proofs.FileCases.{accepted_or_first_fault}
 use Rattle.flk_top.specs.Answer.{IsDueFor, IsDue, usage, asked}
 use Rattle.flk_top.specs.Certified.{lamp_fault_number}
 use Rattle.flk_top.specs.CheckDue.{IsDueForSummary, file_fault, checked, IsDueForCheck, no_configuration as unread, read}
-use Rattle.flk_top.specs.Command.{Asks, inputs_of, configuration_name, data_name, job_name, report_configuration_name, report_data_name}
+use Rattle.flk_top.specs.Command.{Asks, inputs_of, outputs_of, gen_configuration_name, gen_data_name, configuration_name, data_name, job_name, report_configuration_name, report_data_name}
 use Rattle.flk_top.specs.Configuration.{configuration_limit, IsConfiguration, IsConfigurationFault, too_long, first_fault}
 use Rattle.flk_top.specs.Faults.{usage_line, match_line, data_line, range_line, configuration_line, lamp_line}
+use Rattle.flk_top.specs.GenDue.{gen_outcome}
 use Rattle.flk_top.specs.LevelsDue.{IsDueForRecording, data_fault, over_range, measured, IsDueForLevels, no_configuration, no_match, matched}
 use Rattle.flk_top.specs.Matching.{Matches, IsChannelMatchFault, recorded_voltages}
 use Rattle.flk_top.specs.Outcome.{Outcome, completed, refusal}
@@ -25,7 +26,7 @@ use Rattle.flk_top.specs.Tables.{tables_text, IsDueForTables, certified, refused
 use Rattle.flk_top.specs.Text.{levels_text, check_text}
 use Rattle.flk_top.specs.Told.{Files}
 use Rattle.flk_top.specs.declared.command.Command.{Command}
-use Rattle.flk_top.specs.declared.command.Command.TheVariants.{Levels, Check, Tables, Report}
+use Rattle.flk_top.specs.declared.command.Command.TheVariants.{Levels, Check, Tables, Report, Gen}
 use Rattle.flk_top.specs.declared.command.LevelsCommand.{LevelsCommand}
 use Rattle.flk_scale.specs.declared.fault.MatchFault.{MatchFault}
 use Rattle.flk_scale.specs.declared.fault.MatchFault.TheVariants as faults
@@ -123,7 +124,7 @@ check_due bytes rest =
           (due.0, read is.0 is.1 due.1)
     ]
 
-command_due : (words : List (List ℕ)) (files : Files) (q : Command) → Asks words q → HasOutcome (IsDueFor q (map files (inputs_of q words)))
+command_due : (words : List (List ℕ)) (files : Files) (q : Command) → Asks words q → HasOutcome (IsDueFor q (outputs_of q words) (map files (inputs_of q words)))
 command_due words files (Levels command) asks =
     levels_due command (files (configuration_name words)) (files (data_name words)) asks.channel_word.at_least (omega (arith, asks.nominal_word.at_least))
 command_due words files Check asks = check_due (files (configuration_name words)) (files (data_name words))
@@ -131,6 +132,7 @@ command_due words files (Tables lamp rate) asks = tables_due lamp rate
 command_due words files (Report command) asks =
     let conf = files (report_configuration_name words) in
     report_due (files (job_name words)) conf (files (report_data_name words)) (configuration_cases conf)
+command_due words files (Gen command) asks = (gen_outcome command (gen_configuration_name words) (gen_data_name words), refl)
 
 pub some_answer : (words : List (List ℕ)) (files : Files) → (o : Outcome) × IsDue words files o
 some_answer words files =

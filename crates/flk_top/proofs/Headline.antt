@@ -18,7 +18,7 @@ use Rattle.flk_dat.proofs.Sequences.{follows_at}
 use Rattle.flk_dat.proofs.RecordLaws.{record_or_fault}
 use Rattle.flk_dat.proofs.FileLaws.{each_once, file_once, accepted_or_fault_after}
 use Rattle.flk_scale.proofs.MatchingLemmas.{one_channel, measured_has_no_fault, one_lamp}
-use Rattle.flk_top.specs.Command.{inputs_of, configuration_name, data_name}
+use Rattle.flk_top.specs.Command.{inputs_of, outputs_of, configuration_name, data_name}
 use Rattle.flk_top.specs.Configuration.{IsConfiguration, IsConfigurationFault, too_long, first_fault}
 use Rattle.flk_top.specs.Matching.{Matches, IsChannelMatchFault, sample_of, recorded_voltages}
 use Rattle.flk_scale.specs.Range.{voltage_at, IsFirstOver, IsWithinRange}
@@ -190,5 +190,5 @@ levels_told words files m o h (matched c a lamp is matches due) =
 pub tells_levels : (words : List (List ℕ)) (files : Files) (m : MeasuredRecording) (o : Outcome) → AreAccepted words files m → IsDue words files o → TellsLevels m o.status o.text
 tells_levels words files m o h (usage none refused) = absurd (none (Levels m.command) h.asks)
 tells_levels words files m o h (asked q asks due) =
-    let P : Command → Type 0 = λ p. IsDueFor p (map files (inputs_of p words)) o in
+    let P : Command → Type 0 = λ p. IsDueFor p (outputs_of p words) (map files (inputs_of p words)) o in
     levels_told words files m o h (subst P (one_command words q (Levels m.command) asks h.asks) due)

@@ -27,3 +27,6 @@ mod WordCases
 mod ReportExists
 mod AnswerExists
 mod RunLemmas
+mod GenData
+mod GenReplies
+mod GeneratedFiles

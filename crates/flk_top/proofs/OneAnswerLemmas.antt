@@ -8,7 +8,7 @@ use Rattle.flk_dat.specs.Records.{record_at, layout_of}
 use Rattle.flk_dat.proofs.FileLaws.{file_once, accepted_or_fault_after, one_fault_after}
 use Rattle.flk_top.specs.Answer.{IsDueFor, IsDue, usage, asked}
 use Rattle.flk_top.specs.CheckDue.{IsDueForSummary, file_fault, checked, IsDueForCheck, no_configuration as unread, read}
-use Rattle.flk_top.specs.Command.{inputs_of}
+use Rattle.flk_top.specs.Command.{inputs_of, outputs_of}
 use Rattle.flk_top.specs.Configuration.{IsConfiguration}
 use Rattle.flk_top.specs.Faults.{match_line, range_line}
 use Rattle.flk_top.specs.Levels.{AreHalfPeriodLevels}
@@ -18,7 +18,7 @@ use Rattle.flk_top.specs.Outcome.{Outcome, completed}
 use Rattle.flk_top.specs.Text.{check_text}
 use Rattle.flk_top.specs.Told.{Files}
 use Rattle.flk_top.specs.declared.command.Command.{Command}
-use Rattle.flk_top.specs.declared.command.Command.TheVariants.{Levels, Check, Tables, Report}
+use Rattle.flk_top.specs.declared.command.Command.TheVariants.{Levels, Check, Tables, Report, Gen}
 use Rattle.flk_top.specs.declared.command.LevelsCommand.{LevelsCommand}
 use Rattle.flk_scale.specs.declared.fault.MatchFault.{MatchFault}
 use Rattle.flk_scale.proofs.MatchingLemmas.{measured_has_no_fault, one_fault}
@@ -100,27 +100,36 @@ one_check bytes rest o p (read c is due) (unread line fault out) = absurd (confi
 one_check bytes rest o p (read c is due) (read d that other) =
     one_summary d rest o p (subst (λ (x : Config). IsDueForSummary x rest o) (one_configuration bytes c d is that) due) other
 
-one_due_for : (q : Command) (contents : List (List ℕ)) (o p : Outcome) → IsDueFor q contents o → IsDueFor q contents p → o ≡ p
-one_due_for (Levels command) [] o p h k = absurd h
-one_due_for (Levels command) (x ∷ []) o p h k = absurd h
-one_due_for (Levels command) (x ∷ y ∷ []) o p h k = one_levels command x y o p h k
-one_due_for (Levels command) (x ∷ y ∷ z ∷ more) o p h k = absurd h
-one_due_for Check [] o p h k = absurd h
-one_due_for Check (x ∷ []) o p h k = absurd h
-one_due_for Check (x ∷ y ∷ []) o p h k = one_check x y o p h k
-one_due_for Check (x ∷ y ∷ z ∷ more) o p h k = absurd h
-one_due_for (Tables lamp rate) [] o p h k = one_table lamp rate o p h k
-one_due_for (Tables lamp rate) (x ∷ more) o p h k = absurd h
-one_due_for (Report command) [] o p h k = absurd h
-one_due_for (Report command) (x ∷ []) o p h k = absurd h
-one_due_for (Report command) (x ∷ y ∷ []) o p h k = absurd h
-one_due_for (Report command) (x ∷ y ∷ z ∷ []) o p h k = one_report x y z o p h k
-one_due_for (Report command) (x ∷ y ∷ z ∷ w ∷ more) o p h k = absurd h
+one_due_for : (q : Command) (outputs contents : List (List ℕ)) (o p : Outcome) → IsDueFor q outputs contents o → IsDueFor q outputs contents p → o ≡ p
+one_due_for (Levels command) (name ∷ names) contents o p h k = absurd h
+one_due_for (Levels command) [] [] o p h k = absurd h
+one_due_for (Levels command) [] (x ∷ []) o p h k = absurd h
+one_due_for (Levels command) [] (x ∷ y ∷ []) o p h k = one_levels command x y o p h k
+one_due_for (Levels command) [] (x ∷ y ∷ z ∷ more) o p h k = absurd h
+one_due_for Check (name ∷ names) contents o p h k = absurd h
+one_due_for Check [] [] o p h k = absurd h
+one_due_for Check [] (x ∷ []) o p h k = absurd h
+one_due_for Check [] (x ∷ y ∷ []) o p h k = one_check x y o p h k
+one_due_for Check [] (x ∷ y ∷ z ∷ more) o p h k = absurd h
+one_due_for (Tables lamp rate) (name ∷ names) contents o p h k = absurd h
+one_due_for (Tables lamp rate) [] [] o p h k = one_table lamp rate o p h k
+one_due_for (Tables lamp rate) [] (x ∷ more) o p h k = absurd h
+one_due_for (Report command) (name ∷ names) contents o p h k = absurd h
+one_due_for (Report command) [] [] o p h k = absurd h
+one_due_for (Report command) [] (x ∷ []) o p h k = absurd h
+one_due_for (Report command) [] (x ∷ y ∷ []) o p h k = absurd h
+one_due_for (Report command) [] (x ∷ y ∷ z ∷ []) o p h k = one_report x y z o p h k
+one_due_for (Report command) [] (x ∷ y ∷ z ∷ w ∷ more) o p h k = absurd h
+one_due_for (Gen command) [] contents o p h k = absurd h
+one_due_for (Gen command) (name ∷ []) contents o p h k = absurd h
+one_due_for (Gen command) (name ∷ other ∷ []) [] o p h k = h ∙ sym k
+one_due_for (Gen command) (name ∷ other ∷ []) (x ∷ more) o p h k = absurd h
+one_due_for (Gen command) (name ∷ other ∷ third ∷ names) contents o p h k = absurd h
 
 pub one_answer : (words : List (List ℕ)) (files : Files) (o p : Outcome) → IsDue words files o → IsDue words files p → o ≡ p
 one_answer words files o p (usage none out) (usage never also) = out ∙ sym also
 one_answer words files o p (usage none out) (asked q asks due) = absurd (none q asks)
 one_answer words files o p (asked q asks due) (usage none out) = absurd (none q asks)
 one_answer words files o p (asked q asks due) (asked r also other) =
-    let P : Command → Type 0 = λ x. IsDueFor x (map files (inputs_of x words)) o in
-    one_due_for r (map files (inputs_of r words)) o p (subst P (one_command words q r asks also) due) other
+    let P : Command → Type 0 = λ x. IsDueFor x (outputs_of x words) (map files (inputs_of x words)) o in
+    one_due_for r (outputs_of r words) (map files (inputs_of r words)) o p (subst P (one_command words q r asks also) due) other

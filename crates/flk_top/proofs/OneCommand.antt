@@ -8,11 +8,12 @@ use Rattle.flk_num.specs.declared.rate.Rate.TheVariants.{R2400, R4800}
 use Rattle.flk_scale.specs.declared.supply.Supply.{Supply}
 use Rattle.flk_cfg.specs.Canonical.{rate_text}
 use Rattle.flk_job.specs.Table.{lamp_name}
-use Rattle.flk_top.specs.Command.{IsNumberIn, IsCheck, AsksRate, IsTables, Asks, inputs_of}
+use Rattle.flk_top.specs.Command.{IsNumberIn, IsCheck, AsksRate, IsTables, IsReport, IsGen, Asks, inputs_of}
+use Rattle.flk_top.specs.declared.command.GenCommand.{GenCommand}
 use Rattle.flk_top.specs.declared.command.LevelsCommand.{LevelsCommand}
 use Rattle.flk_top.specs.declared.command.ReportCommand.{ReportCommand}
 use Rattle.flk_top.specs.declared.command.Command.{Command}
-use Rattle.flk_top.specs.declared.command.Command.TheVariants.{Levels, Check, Tables, Report}
+use Rattle.flk_top.specs.declared.command.Command.TheVariants.{Levels, Check, Tables, Report, Gen}
 use Rattle.flk_top.proofs.AgreeingFiles.{AreApart}
 
 -- a word has one number
@@ -72,6 +73,12 @@ same_levels a b channel supply = λ i. record { channel = channel i; supply = su
 same_report : (a b : ReportCommand) → a.workers ≡ b.workers → a ≡ b
 same_report a b workers = λ i. record { workers = workers i }
 
+same_gen : (a b : GenCommand) → a.seed ≡ b.seed → a.seconds ≡ b.seconds → a ≡ b
+same_gen a b seed seconds = λ i. record { seed = seed i; seconds = seconds i }
+
+report_or_gen : {A : Type 0} (words : List (List ℕ)) (workers seed seconds : ℕ) → IsReport words workers → IsGen words seed seconds → A
+report_or_gen words workers seed seconds h k = differs_at 0 114 103 _ _ (sym h.command ∙ k.command) refl refl (λ e. omega (arith, e))
+
 pub one_command : (words : List (List ℕ)) (p q : Command) → Asks words p → Asks words q → p ≡ q
 one_command words (Levels a) (Levels b) h k =
     ap Levels (same_levels a b (one_number _ _ _ _ _ _ _ h.channel_word k.channel_word)
@@ -92,6 +99,15 @@ one_command words (Report a) (Levels b) h k = absurd (omega (arith, h.count, k.c
 one_command words (Report a) Check h k = absurd (omega (arith, h.count, k.count))
 one_command words (Report a) (Tables lamp rate) h k = absurd (omega (arith, few_words words lamp rate k, h.count))
 one_command words (Report a) (Report b) h k = ap Report (same_report a b (one_number _ _ _ _ _ _ _ h.workers_word k.workers_word))
+one_command words (Levels a) (Gen b) h k = absurd (omega (arith, h.count, k.count))
+one_command words Check (Gen b) h k = absurd (omega (arith, h.count, k.count))
+one_command words (Tables lamp rate) (Gen b) h k = absurd (omega (arith, few_words words lamp rate h, k.count))
+one_command words (Report a) (Gen b) h k = report_or_gen words a.workers b.seed b.seconds h k
+one_command words (Gen a) (Levels b) h k = absurd (omega (arith, h.count, k.count))
+one_command words (Gen a) Check h k = absurd (omega (arith, h.count, k.count))
+one_command words (Gen a) (Tables lamp rate) h k = absurd (omega (arith, few_words words lamp rate k, h.count))
+one_command words (Gen a) (Report b) h k = report_or_gen words b.workers a.seed a.seconds k h
+one_command words (Gen a) (Gen b) h k = ap Gen (same_gen a b (one_number _ _ _ _ _ _ _ h.seed_word k.seed_word) (one_number _ _ _ _ _ _ _ h.seconds_word k.seconds_word))
 
 -- no input of a command stands twice
 pub inputs_apart : (words : List (List ℕ)) (q : Command) → Asks words q → AreApart (inputs_of q words)
@@ -100,3 +116,4 @@ inputs_apart words Check asks = ((asks.names, tt), (tt, tt))
 inputs_apart words (Tables lamp rate) asks = tt
 inputs_apart words (Report command) asks =
     ((asks.names.job_configuration, (asks.names.job_data, tt)), ((asks.names.configuration_data, tt), (tt, tt)))
+inputs_apart words (Gen command) asks = tt

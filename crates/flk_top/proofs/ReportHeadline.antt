@@ -23,7 +23,7 @@ use Rattle.flk_report.specs.declared.verdict.Verdict.TheVariants.{Pass, Fail, Un
 use Rattle.flk_report.proofs.VerdictLemmas.{verdict_is, verdict_unique, overall_is}
 use Rattle.flk_report.proofs.HeldLemmas.{every_run}
 use Rattle.flk_top.specs.Answer.{IsDueFor, IsDue, usage, asked}
-use Rattle.flk_top.specs.Command.{inputs_of, job_name, report_configuration_name, report_data_name}
+use Rattle.flk_top.specs.Command.{inputs_of, outputs_of, job_name, report_configuration_name, report_data_name}
 use Rattle.flk_top.specs.Headline.{ReportedRecording, AreAcceptedForReport, AreOfRun, AreOfRuns, TellsVerdict, TellsReport}
 use Rattle.flk_top.specs.Matching.{recorded_voltages}
 use Rattle.flk_top.specs.Outcome.{Outcome}
@@ -123,5 +123,5 @@ report_told words files m o h (read j c is that due) =
 pub tells_report : (words : List (List ℕ)) (files : Files) (m : ReportedRecording) (o : Outcome) → AreAcceptedForReport words files m → IsDue words files o → TellsReport m o.status o.text
 tells_report words files m o h (usage none refused) = absurd (none (Report m.command) h.asks)
 tells_report words files m o h (asked q asks due) =
-    let P : Command → Type 0 = λ p. IsDueFor p (map files (inputs_of p words)) o in
+    let P : Command → Type 0 = λ p. IsDueFor p (outputs_of p words) (map files (inputs_of p words)) o in
     report_told words files m o h (subst P (one_command words q (Report m.command) asks h.asks) due)

@@ -197,9 +197,10 @@ one_report job conf bytes o p (read j c is that due) (read i d there again told)
 
 -- ---- the workers
 
-pub workers_alike : (a b : ReportCommand) (contents : List (List ℕ)) (o : Outcome) → IsDueFor (Report a) contents o → IsDueFor (Report b) contents o
-workers_alike a b [] o h = h
-workers_alike a b (x ∷ []) o h = h
-workers_alike a b (x ∷ y ∷ []) o h = h
-workers_alike a b (x ∷ y ∷ z ∷ []) o h = h
-workers_alike a b (x ∷ y ∷ z ∷ w ∷ more) o h = h
+pub workers_alike : (a b : ReportCommand) (outputs contents : List (List ℕ)) (o : Outcome) → IsDueFor (Report a) outputs contents o → IsDueFor (Report b) outputs contents o
+workers_alike a b (name ∷ names) contents o h = h
+workers_alike a b [] [] o h = h
+workers_alike a b [] (x ∷ []) o h = h
+workers_alike a b [] (x ∷ y ∷ []) o h = h
+workers_alike a b [] (x ∷ y ∷ z ∷ []) o h = h
+workers_alike a b [] (x ∷ y ∷ z ∷ w ∷ more) o h = h

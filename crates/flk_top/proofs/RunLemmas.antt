@@ -5,22 +5,24 @@ use Rattle.std.specs.Str.{bytes_eq}
 use Rattle.std.specs.Io.KnownBytes.{Appends}
 use Rattle.std.proofs.KnownBytes.{Appends-nil}
 use Rattle.std.proofs.lemmas.Bool.{cases_Bool}
-use Rattle.flk_io.specs.Causes.{Rose, AddsFront}
-use Rattle.flk_io.specs.Told.{ShelfTold, SinkTold, OnlyReads}
+use Rattle.flk_io.specs.Causes.{Rose, CountsOn, AddsFront}
+use Rattle.flk_io.specs.Told.{ShelfTold, SinkTold, OnlyReads, OnlyAppends}
 use Rattle.flk_num.specs.declared.lamp.Lamp.{Lamp}
 use Rattle.flk_num.specs.declared.rate.Rate.{Rate}
 use Rattle.flk_top.specs.Answer.{IsDueFor, IsDue, usage, asked}
-use Rattle.flk_top.specs.Command.{Asks, IsNoCommand, inputs_of, IsInput}
+use Rattle.flk_top.specs.Command.{Asks, IsNoCommand, inputs_of, outputs_of, IsInput}
 use Rattle.flk_top.specs.Faults.{usage_line}
 use Rattle.flk_top.specs.Headline.{MeasuredRecording, AreAccepted, TellsLevels, ReportedRecording, AreAcceptedForReport, TellsReport}
 use Rattle.flk_top.specs.Outcome.{Piece, Outcome, appended_under}
-use Rattle.flk_top.specs.Replies.{outcome_of, IsExplained, IsHonest, ReadsOnly, AwaitsTurns}
-use Rattle.flk_top.specs.Run.{IsCut, read, write, read_and_write, memory, IsCounted, IsConfined, DoneIsDue, CutIsDue, ReadsInTurn}
-use Rattle.flk_top.specs.Status.{status_number}
+use Rattle.flk_top.specs.Replies.{outcome_of, IsExplained, IsHonest, ReadsOnly, AwaitsTurns, IsDueSomewhere, Tells, IsTold, IsBegun, IsCutOff, CountOn}
+use Rattle.flk_top.specs.Run.{IsCut, read, append, write, read_and_write, memory, IsCounted, IsConfined, DoneIsDue, CutIsDue, ReadsInTurn}
+use Rattle.flk_top.specs.Status.{status_number, cut_off_number}
 use Rattle.flk_top.specs.Tables.{IsDueForTables}
 use Rattle.flk_top.specs.Told.{Files, Agrees, TellsInputs, AreAppended, AreBegun}
 use Rattle.flk_top.specs.declared.command.Command.{Command}
 use Rattle.flk_top.specs.declared.command.Command.TheVariants.{Tables}
+use Rattle.flk_top.specs.declared.reply.CutOff.{CutOff}
+use Rattle.flk_top.specs.declared.reply.CutOff.TheVariants.{OutOfMemory, AppendFailed}
 use Rattle.flk_top.specs.declared.reply.Reply.{Reply}
 use Rattle.flk_top.specs.declared.reply.Status.{Status}
 use Rattle.flk_top.specs.declared.reply.Status.TheVariants.{Done, Failed, Undecided, Refused, ReadFailed}
@@ -36,24 +38,21 @@ use Rattle.flk_top.proofs.Outcomes.{is_refusal}
 pub inputs_decided : (words : List (List ℕ)) (files others : Files) → ((name : List ℕ) → IsInput words name → others name ≡ files name) → (o : Outcome) → IsDue words files o → IsDue words others o
 inputs_decided words files others same o (usage none out) = usage none out
 inputs_decided words files others same o (asked q asks due) =
-    let P : List (List ℕ) → Type 0 = λ contents. IsDueFor q contents o in
+    let P : List (List ℕ) → Type 0 = λ contents. IsDueFor q (outputs_of q words) contents o in
     asked q asks (subst P (sym (same_contents files others (inputs_of q words) (λ name there. same name (q, asks, there)))) due)
 
 -- ---- a reply is due
 
--- some files agree with what is told, and the reply is due for them
-abbrev pub IsDueSomewhere : List (List ℕ) → ShelfTold → Outcome → Type 0
-IsDueSomewhere words told o = (files : Files) × Agrees told files × IsDue words files o
-
-pub explained_due : (words : List (List ℕ)) (told : ShelfTold) (q : Command) (r : Reply) → Asks words q → IsExplained q (inputs_of q words) told r
+pub explained_due : (words : List (List ℕ)) (told : ShelfTold) (q : Command) (r : Reply) → Asks words q → outputs_of q words ≡ [] → IsExplained q (inputs_of q words) told r
     → r.status ≢ ReadFailed → IsDueSomewhere words told (outcome_of r)
-explained_due words told q r asks explained fine =
+explained_due words told q r asks silent explained fine =
     let out = explained fine in
     let names = inputs_of q words in
-    let P : List (List ℕ) → Type 0 = λ contents. IsDueFor q contents (outcome_of r) in (
+    let P : List (List ℕ) → Type 0 = λ contents. IsDueFor q (outputs_of q words) contents (outcome_of r) in
+    let Q : List (List ℕ) → Type 0 = λ outputs. IsDueFor q outputs out.0 (outcome_of r) in (
       files_with told.left names out.0,
       files_agree told.left names out.0 out.1,
-      asked q asks (subst P (sym (files_have told.left names out.0 (inputs_apart words q asks) out.1)) out.2),
+      asked q asks (subst P (sym (files_have told.left names out.0 (inputs_apart words q asks) out.1)) (subst Q (sym silent) out.2)),
     )
 
 pub usage_due : (words : List (List ℕ)) (told : ShelfTold) (r : Reply) → IsNoCommand words → r.status ≡ Refused → string_bytes r.text ≡ usage_line → IsDueSomewhere words told (outcome_of r)
@@ -115,37 +114,39 @@ failed_number s n is same = is ∙ ap status_number same
 
 -- ---- the text was written whole
 
-pub done_due : (words : List (List ℕ)) (n : ℕ) (old new : ShelfTold) (was is : SinkTold) (r : Reply) → n ≡ status_number r.status → OnlyReads old new
-    → (r.status ≢ ReadFailed → IsDueSomewhere words old (outcome_of r)) → Appends was.written is.written (string_bytes r.text) → DoneIsDue words n old new was is
-done_due words n old new was is r number reads due appends = λ less.
-    let found = due (not_failed r.status n number less) in
-    (found.0, outcome_of r, found.1, found.2, record { status = number; text = appends; pieces = none_appended old new reads })
+pub done_due : (words : List (List ℕ)) (n : ℕ) (old new : ShelfTold) (was is : SinkTold) (r : Reply) → n ≡ status_number r.status
+    → (r.status ≢ ReadFailed → IsTold words old new r) → Appends was.written is.written (string_bytes r.text) → DoneIsDue words n old new was is
+done_due words n old new was is r number told appends = λ less.
+    let found = told (not_failed r.status n number less) in
+    let P : List ℕ → Type 0 = λ text. Appends was.written is.written text in
+    (found.1.0, found.0, found.1.1, found.1.2, record { status = number ∙ sym found.2.status; text = subst P (sym found.2.text) appends; pieces = found.3 })
 
-pub done_cut : (words : List (List ℕ)) (n : ℕ) (old new : ShelfTold) (was is : SinkTold) (r : Reply) → n ≡ status_number r.status → OnlyReads old new → IsHonest old new r
-    → (r.status ≡ ReadFailed → (name : List ℕ) × IsInput words name) → Appends was.written is.written (string_bytes r.text) → CutIsDue words n old new was is
-done_cut words n old new was is r number reads honest input appends = λ four.
+pub done_cut : (words : List (List ℕ)) (n : ℕ) (old new : ShelfTold) (was is : SinkTold) (r : Reply) → n ≡ status_number r.status → IsHonest old new r
+    → (r.status ≡ ReadFailed → ((name : List ℕ) × IsInput words name) × IsBegun words old new) → Appends was.written is.written (string_bytes r.text) → CutIsDue words n old new was is
+done_cut words n old new was is r number honest begun appends = λ four.
     let failed = read_failed r.status n number four in
-    let there = input failed in
-    let due = some_due words old in
+    let there = begun failed in
+    let due = there.1 in
     let P : List ℕ → Type 0 = λ text. Appends was.written is.written text in (
       due.1.0,
       due.0,
       due.1.1,
       due.1.2,
-      read there.0 there.1 (failed_number r.status n number failed) (honest.rose failed) (subst P (honest.text failed) appends) (none_begun old new due.0.pieces reads),
+      read there.0.0 there.0.1 (failed_number r.status n number failed) (honest.rose failed) (subst P (honest.text failed) appends) due.2,
     )
 
-pub done_counted : (n : ℕ) (old new : ShelfTold) (was is : SinkTold) (r : Reply) → n ≡ status_number r.status → OnlyReads old new → IsHonest old new r → is.faults ≡ was.faults
-    → IsCounted n old new was is
-done_counted n old new was is r number reads honest kept = record {
-  reads_later = reads.count.later;
-  appends_later = omega (arith, reads.append_faults);
+pub done_counted : (n : ℕ) (old new : ShelfTold) (was is : SinkTold) (r : Reply) → n ≡ status_number r.status → CountOn old new → new.append_faults ≡ old.append_faults → IsHonest old new r
+    → is.faults ≡ was.faults → IsCounted n old new was is
+done_counted n old new was is r number counts appends honest kept = record {
+  reads_later = counts.reads.later;
+  appends_later = counts.appends.later;
   writes_later = omega (arith, kept);
   reads_stay = λ less. honest.quiet (not_failed r.status n number less);
-  appends_stay = λ less. reads.append_faults;
+  appends_stay = λ less. appends;
   writes_stay = λ less. kept;
   read_failed = λ rose. four_at r.status number honest.quiet rose;
-  append_failed = λ rose. absurd (omega (arith, rose, reads.append_faults));
+  append_failed = λ rose. absurd (omega (arith, rose, appends));
+  append_silent = λ rose. absurd (omega (arith, rose, appends));
   write_failed = λ rose. absurd (omega (arith, rose, kept));
 }
   where
@@ -158,15 +159,16 @@ done_counted n old new was is r number reads honest kept = record {
 
 -- ---- the write failed
 
-pub written_cut : (words : List (List ℕ)) (old new : ShelfTold) (was is : SinkTold) (r : Reply) → OnlyReads old new → IsHonest old new r
-    → (r.status ≢ ReadFailed → IsDueSomewhere words old (outcome_of r)) → (r.status ≡ ReadFailed → (name : List ℕ) × IsInput words name)
+pub written_cut : (words : List (List ℕ)) (old new : ShelfTold) (was is : SinkTold) (r : Reply) → IsHonest old new r
+    → (r.status ≢ ReadFailed → IsTold words old new r) → (r.status ≡ ReadFailed → ((name : List ℕ) × IsInput words name) × IsBegun words old new)
     → Rose was.faults is.faults → AddsFront was.written is.written (string_bytes r.text) → CutIsDue words 5 old new was is
-written_cut words old new was is r reads honest due input rose front = λ four. by_status r.status refl
+written_cut words old new was is r honest told begun rose front = λ four. by_status r.status refl
   where
     whole : r.status ≢ ReadFailed → (files : Files) × (o : Outcome) × Agrees old files × IsDue words files o × IsCut words o 5 old new was is
     whole fine =
-        let found = due fine in
-        (found.0, outcome_of r, found.1, found.2, write refl rose front (none_appended old new reads))
+        let found = told fine in
+        let P : List ℕ → Type 0 = λ text. AddsFront was.written is.written text in
+        (found.1.0, found.0, found.1.1, found.1.2, write refl rose (subst P (sym found.2.text) front) found.3)
 
     by_status : (s : Status) → r.status ≡ s → (files : Files) × (o : Outcome) × Agrees old files × IsDue words files o × IsCut words o 5 old new was is
     by_status Done same = whole (λ failed. cc)
@@ -174,47 +176,77 @@ written_cut words old new was is r reads honest due input rose front = λ four. 
     by_status Undecided same = whole (λ failed. cc)
     by_status Refused same = whole (λ failed. cc)
     by_status ReadFailed same =
-        let there = input same in
-        let some = some_due words old in
+        let there = begun same in
+        let due = there.1 in
         let P : List ℕ → Type 0 = λ text. AddsFront was.written is.written text in (
-          some.1.0,
-          some.0,
-          some.1.1,
-          some.1.2,
-          read_and_write there.0 there.1 refl (honest.rose same) rose (subst P (honest.text same) front) (none_begun old new some.0.pieces reads),
+          due.1.0,
+          due.0,
+          due.1.1,
+          due.1.2,
+          read_and_write there.0.0 there.0.1 refl (honest.rose same) rose (subst P (honest.text same) front) due.2,
         )
 
-pub written_counted : (old new : ShelfTold) (was is : SinkTold) → OnlyReads old new → was.faults ≤ is.faults → IsCounted 5 old new was is
-written_counted old new was is reads later = record {
-  reads_later = reads.count.later;
-  appends_later = omega (arith, reads.append_faults);
+pub written_counted : (old new : ShelfTold) (was is : SinkTold) → CountOn old new → new.append_faults ≡ old.append_faults → was.faults ≤ is.faults → IsCounted 5 old new was is
+written_counted old new was is counts appends later = record {
+  reads_later = counts.reads.later;
+  appends_later = counts.appends.later;
   writes_later = later;
   reads_stay = λ less. absurd (omega (arith, less));
-  appends_stay = λ less. reads.append_faults;
+  appends_stay = λ less. appends;
   writes_stay = λ less. absurd (omega (arith, less));
   read_failed = λ rose. omega arith;
   append_failed = λ rose. refl;
+  append_silent = λ rose. absurd (omega (arith, rose, appends));
   write_failed = λ rose. refl;
 }
 
--- ---- memory was short
+-- ---- there is no text
 
-pub memory_cut : (words : List (List ℕ)) (old new : ShelfTold) (was : SinkTold) → OnlyReads old new → CutIsDue words 6 old new was was
-memory_cut words old new was reads = λ four.
-    let due = some_due words old in
-    (due.1.0, due.0, due.1.1, due.1.2, memory refl refl (none_begun old new due.0.pieces reads))
+pub cut_off_cut : (words : List (List ℕ)) (n : ℕ) (old new : ShelfTold) (was : SinkTold) (e : CutOff) → n ≡ cut_off_number e → IsCutOff words old new e → CutIsDue words n old new was was
+cut_off_cut words n old new was OutOfMemory number off = λ four.
+    let due = off.0 in
+    (due.1.0, due.0, due.1.1, due.1.2, memory number refl due.2)
+cut_off_cut words n old new was AppendFailed number off = λ four.
+    let due = off.2 in
+    (due.0, off.1, due.1, due.2, append off.3 number off.0 refl off.4)
 
-pub memory_counted : (old new : ShelfTold) (was : SinkTold) → OnlyReads old new → IsCounted 6 old new was was
-memory_counted old new was reads = record {
-  reads_later = reads.count.later;
-  appends_later = omega (arith, reads.append_faults);
+pub cut_off_counted : (words : List (List ℕ)) (n : ℕ) (old new : ShelfTold) (was : SinkTold) (e : CutOff) → n ≡ cut_off_number e → CountOn old new → IsCutOff words old new e → IsCounted n old new was was
+cut_off_counted words n old new was e number counts off = record {
+  reads_later = counts.reads.later;
+  appends_later = counts.appends.later;
   writes_later = omega arith;
-  reads_stay = λ less. absurd (omega (arith, less));
-  appends_stay = λ less. reads.append_faults;
+  reads_stay = λ less. absurd (omega (arith, five e number, less));
+  appends_stay = λ less. absurd (omega (arith, five e number, less));
   writes_stay = λ less. refl;
-  read_failed = λ rose. omega arith;
-  append_failed = λ rose. absurd (omega (arith, rose, reads.append_faults));
+  read_failed = λ rose. omega (arith, five e number);
+  append_failed = λ rose. failed e number off rose;
+  append_silent = λ rose. refl;
   write_failed = λ rose. absurd (omega (arith, rose));
+}
+  where
+    five : (e : CutOff) → n ≡ cut_off_number e → 5 ≤ n
+    five OutOfMemory is = omega (arith, is)
+    five AppendFailed is = omega (arith, is)
+
+    failed : (e : CutOff) → n ≡ cut_off_number e → IsCutOff words old new e → old.append_faults < new.append_faults → n ≡ 5
+    failed OutOfMemory is off rose = absurd (omega (arith, rose, off.1))
+    failed AppendFailed is off rose = is
+
+-- ---- the answer of a command that appends nothing
+
+pub reply_told : (words : List (List ℕ)) (old new : ShelfTold) (r : Reply) → OnlyReads old new → (r.status ≢ ReadFailed → IsDueSomewhere words old (outcome_of r))
+    → r.status ≢ ReadFailed → IsTold words old new r
+reply_told words old new r reads due fine = (outcome_of r, due fine, record { status = refl; text = refl }, none_appended old new reads)
+
+pub nothing_begun : (words : List (List ℕ)) (old new : ShelfTold) → OnlyReads old new → IsBegun words old new
+nothing_begun words old new reads =
+    let due = some_due words old in
+    (due.0, due.1, none_begun old new due.0.pieces reads)
+
+pub reads_count : (old new : ShelfTold) → OnlyReads old new → CountOn old new
+reads_count old new reads = record {
+  reads = reads.count;
+  appends = record { later = omega (arith, reads.append_faults); stands = λ end. reads.append_faults };
 }
 
 -- ---- the levels of accepted files
@@ -278,10 +310,10 @@ pub input_read : {E : Type 0} (words : List (List ℕ)) (q : Command) (first : L
 input_read words q first names (Ok x) asks some = λ failed. (first, (q, asks, subst (λ (ns : List (List ℕ)). Contains ns first) (sym some) (contains_first names first)))
 input_read words q first names (Err e) asks some = tt
 
-pub explained_all : {E : Type 0} (words : List (List ℕ)) (told : ShelfTold) (q : Command) (r : Result Reply E) → Asks words q → IfOk r (IsExplained q (inputs_of q words) told)
+pub explained_all : {E : Type 0} (words : List (List ℕ)) (told : ShelfTold) (q : Command) (r : Result Reply E) → Asks words q → outputs_of q words ≡ [] → IfOk r (IsExplained q (inputs_of q words) told)
     → IfOk r (λ x. x.status ≢ ReadFailed → IsDueSomewhere words told (outcome_of x))
-explained_all words told q (Ok x) asks h = λ fine. explained_due words told q x asks h fine
-explained_all words told q (Err e) asks h = tt
+explained_all words told q (Ok x) asks silent h = λ fine. explained_due words told q x asks silent h fine
+explained_all words told q (Err e) asks silent h = tt
 
 -- ---- the commands that read nothing
 
@@ -292,5 +324,5 @@ usage_replies words told (Err e) none h = tt
 
 pub tables_replies : {E : Type 0} (words : List (List ℕ)) (told : ShelfTold) (lamp : Lamp) (rate : Rate) (r : Result Reply E) → Asks words (Tables lamp rate)
     → IfOk r (λ x. IsDueForTables lamp rate (outcome_of x)) → IfOk r (λ x. x.status ≢ ReadFailed → IsDueSomewhere words told (outcome_of x))
-tables_replies words told lamp rate (Ok x) asks h = λ fine. explained_due words told (Tables lamp rate) x asks (λ again. ([], tt, h)) fine
+tables_replies words told lamp rate (Ok x) asks h = λ fine. explained_due words told (Tables lamp rate) x asks refl (λ again. ([], tt, h)) fine
 tables_replies words told lamp rate (Err e) asks h = tt

@@ -1,5 +1,5 @@
 -- Words have the shape of a command, or of none.
-use Rattle.std.proofs.Common.{◌≡◌, ◌≢◌, ◌⊎◌, ℕ, ◌*◌, List, [], ◌∷◌, length, codes, refl, subst, arith, inl, inr}
+use Rattle.std.proofs.Common.{◌≡◌, ◌≢◌, ◌⊎◌, ℕ, ◌*◌, ◌-◌, ◌^◌, List, [], ◌∷◌, length, codes, refl, subst, arith, inl, inr}
 use Rattle.std.specs.Char.{digit_value}
 use Rattle.std.specs.Str.Parse.{AllDigits, digits_value}
 use Rattle.std.proofs.lemmas.Bool.{cases_lt, cases_eq}
@@ -10,10 +10,10 @@ use Rattle.flk_num.specs.declared.rate.Rate.TheVariants.{R2400, R4800}
 use Rattle.flk_cfg.specs.Canonical.{rate_text}
 use Rattle.flk_job.proofs.JobCases.{lamp_name_cases}
 use Rattle.flk_top.specs.Command.{IsNumber, IsNumberIn, word, configuration_name, data_name, IsLevels, IsCheck, AsksRate, IsTables, Asks, IsNoCommand}
-use Rattle.flk_top.specs.Command.{job_name, report_configuration_name, report_data_name, AreReportNames, IsReport}
+use Rattle.flk_top.specs.Command.{job_name, report_configuration_name, report_data_name, AreReportNames, IsReport, gen_configuration_name, gen_data_name, IsGen}
 use Rattle.flk_top.specs.declared.command.LevelsCommand.{LevelsCommand}
 use Rattle.flk_top.specs.declared.command.Command.{Command}
-use Rattle.flk_top.specs.declared.command.Command.TheVariants.{Levels, Check, Tables, Report}
+use Rattle.flk_top.specs.declared.command.Command.TheVariants.{Levels, Check, Tables, Report, Gen}
 use Rattle.flk_top.proofs.OneCommand.{one_number}
 
 -- ---- numbers
@@ -178,14 +178,37 @@ report_cases words =
       ]
     ]
 
+abbrev pub NoGen : List (List ℕ) → Type 0
+NoGen words = (seed seconds : ℕ) → ¬ IsGen words seed seconds
+
+gen_cases : (words : List (List ℕ)) → ((seed : ℕ) × (seconds : ℕ) × IsGen words seed seconds) ⊎ NoGen words
+gen_cases words =
+    elim (cases_eq (length words) 5) [
+      | inr other ↦ inr (λ s n is. other is.count)
+      | inl count ↦ elim (same_text (word words 0) (codes "gen")) [
+        | inr other ↦ inr (λ s n is. other is.command)
+        | inl command ↦ elim (same_text (gen_configuration_name words) (gen_data_name words)) [
+          | inl same ↦ inr (λ s n is. is.names same)
+          | inr names ↦ elim (in_cases 0 (2 ^ 32 - 1) (word words 1)) [
+            | inr none ↦ inr (λ s n is. none s is.seed_word)
+            | inl seed ↦ elim (in_cases 1 8000 (word words 2)) [
+              | inr none ↦ inr (λ s n is. none n is.seconds_word)
+              | inl seconds ↦ inl (seed.0, seconds.0, record { count = count; command = command; names = names; seed_word = seed.1; seconds_word = seconds.1 })
+            ]
+          ]
+        ]
+      ]
+    ]
+
 abbrev NoTables : List (List ℕ) → Type 0
 NoTables words = (lamp : Lamp) (rate : Rate) → ¬ IsTables words lamp rate
 
-pub no_command : (words : List (List ℕ)) → NoLevels words → ¬ IsCheck words → NoTables words → NoReport words → IsNoCommand words
-no_command words levels check tables report (Levels command) is = levels command.channel command.supply.nominal_mv command.supply.uncertainty_uv is
-no_command words levels check tables report Check is = check is
-no_command words levels check tables report (Tables lamp rate) is = tables lamp rate is
-no_command words levels check tables report (Report command) is = report command.workers is
+pub no_command : (words : List (List ℕ)) → NoLevels words → ¬ IsCheck words → NoTables words → NoReport words → NoGen words → IsNoCommand words
+no_command words levels check tables report none (Levels command) is = levels command.channel command.supply.nominal_mv command.supply.uncertainty_uv is
+no_command words levels check tables report none Check is = check is
+no_command words levels check tables report none (Tables lamp rate) is = tables lamp rate is
+no_command words levels check tables report none (Report command) is = report command.workers is
+no_command words levels check tables report none (Gen command) is = none command.seed command.seconds is
 
 -- what `levels` is asked for by these numbers
 abbrev levels_asked : (words : List (List ℕ)) (channel nominal uncertainty : ℕ) → IsLevels words channel nominal uncertainty → LevelsCommand
@@ -211,7 +234,10 @@ asked_for words =
           | inl tables ↦ inl (Tables tables.0 tables.1, tables.2)
           | inr no_tables ↦ elim (report_cases words) [
             | inl report ↦ inl (Report (record { workers = report.0 }), report.1)
-            | inr no_report ↦ inr (no_command words no_levels no_check no_tables no_report)
+            | inr no_report ↦ elim (gen_cases words) [
+              | inl generated ↦ inl (Gen (record { seed = generated.0; seconds = generated.1 }), generated.2)
+              | inr no_gen ↦ inr (no_command words no_levels no_check no_tables no_report no_gen)
+            ]
           ]
         ]
       ]

@@ -8,9 +8,10 @@ use Rattle.flk_job.specs.Matching.{IsMatch}
 use Rattle.flk_job.specs.declared.job.Job.{Job}
 use Rattle.flk_top.specs.Certified.{IsCertifiedLamp}
 use Rattle.flk_top.specs.CheckDue.{IsDueForCheck}
-use Rattle.flk_top.specs.Command.{Asks, IsNoCommand, inputs_of}
+use Rattle.flk_top.specs.Command.{Asks, IsNoCommand, inputs_of, outputs_of}
 use Rattle.flk_top.specs.Configuration.{IsConfiguration}
 use Rattle.flk_top.specs.Faults.{usage_line}
+use Rattle.flk_top.specs.GenDue.{IsDueForGen}
 use Rattle.flk_top.specs.LevelsDue.{IsDueForLevels}
 use Rattle.flk_top.specs.Matching.{Matches}
 use Rattle.flk_top.specs.Outcome.{Outcome, refusal}
@@ -19,20 +20,23 @@ use Rattle.flk_top.specs.Tables.{IsDueForTables}
 use Rattle.flk_top.specs.Told.{Files}
 use Rattle.flk_top.specs.declared.certified.CertifiedSection.{CertifiedSection}
 use Rattle.flk_top.specs.declared.command.Command.{Command}
-use Rattle.flk_top.specs.declared.command.Command.TheVariants.{Levels, Check, Tables, Report}
+use Rattle.flk_top.specs.declared.command.Command.TheVariants.{Levels, Check, Tables, Report, Gen}
 
--- The outcome is due for a command whose inputs have these contents, in the order of `inputs_of`.
-abbrev pub IsDueFor : Command → (contents : List (List ℕ)) → Outcome → Type 0
-IsDueFor (Levels command) (configuration ∷ bytes ∷ []) o = IsDueForLevels command configuration bytes o
-IsDueFor Check (configuration ∷ bytes ∷ []) o = IsDueForCheck configuration bytes o
-IsDueFor (Tables lamp rate) [] o = IsDueForTables lamp rate o
-IsDueFor (Report command) (job ∷ configuration ∷ bytes ∷ []) o = IsDueForReport job configuration bytes o
-IsDueFor q contents o = ⊥
+-- The outcome is due for a command whose outputs have these names, in the order of `outputs_of`, and whose inputs have these contents, in
+-- the order of `inputs_of`.
+abbrev pub IsDueFor : Command → (outputs contents : List (List ℕ)) → Outcome → Type 0
+IsDueFor (Levels command) [] (configuration ∷ bytes ∷ []) o = IsDueForLevels command configuration bytes o
+IsDueFor Check [] (configuration ∷ bytes ∷ []) o = IsDueForCheck configuration bytes o
+IsDueFor (Tables lamp rate) [] [] o = IsDueForTables lamp rate o
+IsDueFor (Report command) [] (job ∷ configuration ∷ bytes ∷ []) o = IsDueForReport job configuration bytes o
+IsDueFor (Gen command) (configuration ∷ data_file ∷ []) [] o = IsDueForGen command configuration data_file o
+IsDueFor q outputs contents o = ⊥
 
 -- The outcome is due: words of no command are told, and a command's outcome depends on the bytes of its inputs alone.
 pub data IsDue (words : List (List ℕ)) (files : Files) (o : Outcome) : Type 0 where
   usage : IsNoCommand words → o ≡ refusal usage_line → IsDue words files o
-  asked : (q : Command) → Asks words q → IsDueFor q (map files (inputs_of q words)) o → IsDue words files o
+  asked : (q : Command) → Asks words q → IsDueFor q (outputs_of q words) (map files (inputs_of q words)) o
+      → IsDue words files o
 
 -- Input i of a command, from 0, comes to its turn: the first at once; a report's configuration once the job is
 -- accepted; the data once the configuration is accepted and, for levels, has the channel to measure, for a report has

@@ -1,6 +1,6 @@
--- The words of the commands `levels CFG DAT CHANNEL NOMINAL_MV UNCERTAINTY_UV`, `check CFG DAT`, `tables LAMP [RATE]`
--- and `report JOB CFG DAT WORKERS`, and which files each reads and adds to.
-use Rattle.std.specs.Prelude.{◌≡◌, ◌≢◌, ◌⊎◌, ℕ, ◌*◌, ◌≤◌, List, [], ◌∷◌, Contains, length, slice_index_or, codes}
+-- The words of the commands `levels CFG DAT CHANNEL NOMINAL_MV UNCERTAINTY_UV`, `check CFG DAT`, `tables LAMP [RATE]`,
+-- `report JOB CFG DAT WORKERS` and `gen SEED SECONDS CFG DAT`, and which files each reads and adds to.
+use Rattle.std.specs.Prelude.{◌≡◌, ◌≢◌, ◌⊎◌, ℕ, ◌*◌, ◌-◌, ◌^◌, ◌≤◌, List, [], ◌∷◌, Contains, length, slice_index_or, codes}
 use Rattle.std.specs.Str.Parse.{IsNumeral, digits_value}
 use Rattle.flk_num.specs.declared.lamp.Lamp.{Lamp}
 use Rattle.flk_num.specs.declared.rate.Rate.{Rate}
@@ -8,7 +8,7 @@ use Rattle.flk_num.specs.declared.rate.Rate.TheVariants.{R2400}
 use Rattle.flk_cfg.specs.Canonical.{rate_text}
 use Rattle.flk_job.specs.Table.{lamp_name}
 use Rattle.flk_top.specs.declared.command.Command.{Command}
-use Rattle.flk_top.specs.declared.command.Command.TheVariants.{Levels, Check, Tables, Report}
+use Rattle.flk_top.specs.declared.command.Command.TheVariants.{Levels, Check, Tables, Report, Gen}
 
 -- one to ten decimal digits, and the number that they write
 pub record IsNumber (word : List ℕ) (n : ℕ) : Type 0 where
@@ -81,12 +81,28 @@ pub record IsReport (words : List (List ℕ)) (workers : ℕ) : Type 0 where
   pub names : AreReportNames words
   pub workers_word : IsNumberIn 1 16 (word words 4) workers
 
+-- the names under which `gen` puts the configuration and the data
+abbrev pub gen_configuration_name : List (List ℕ) → List ℕ
+gen_configuration_name words = word words 3
+
+abbrev pub gen_data_name : List (List ℕ) → List ℕ
+gen_data_name words = word words 4
+
+-- The words have the shape of `gen`, with this seed and so many seconds. The two file names differ.
+pub record IsGen (words : List (List ℕ)) (seed seconds : ℕ) : Type 0 where
+  pub count : length words ≡ 5
+  pub command : word words 0 ≡ codes "gen"
+  pub names : gen_configuration_name words ≢ gen_data_name words
+  pub seed_word : IsNumberIn 0 (2 ^ 32 - 1) (word words 1) seed
+  pub seconds_word : IsNumberIn 1 8000 (word words 2) seconds
+
 -- the words ask for this command
 abbrev pub Asks : List (List ℕ) → Command → Type 0
 Asks words (Levels command) = IsLevels words command.channel command.supply.nominal_mv command.supply.uncertainty_uv
 Asks words Check = IsCheck words
 Asks words (Tables lamp rate) = IsTables words lamp rate
 Asks words (Report command) = IsReport words command.workers
+Asks words (Gen command) = IsGen words command.seed command.seconds
 
 -- the words ask for no command
 abbrev pub IsNoCommand : List (List ℕ) → Type 0
@@ -98,9 +114,11 @@ inputs_of (Levels command) words = configuration_name words ∷ data_name words 
 inputs_of Check words = configuration_name words ∷ data_name words ∷ []
 inputs_of (Tables lamp rate) words = []
 inputs_of (Report command) words = job_name words ∷ report_configuration_name words ∷ report_data_name words ∷ []
+inputs_of (Gen command) words = []
 
--- the names of the files that a command appends to
+-- the names of the files that a command appends to, in the order in which it comes to them
 abbrev pub outputs_of : Command → List (List ℕ) → List (List ℕ)
+outputs_of (Gen command) words = gen_configuration_name words ∷ gen_data_name words ∷ []
 outputs_of q words = []
 
 -- the name is one of the files that the words' command reads

@@ -12,6 +12,7 @@ pub mod CheckDue
 pub mod Certified
 pub mod Tables
 pub mod ReportDue
+pub mod GenDue
 pub mod Answer
 pub mod Run
 pub mod Headline

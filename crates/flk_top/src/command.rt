@@ -4,7 +4,7 @@ ghost use Rattle.std.specs.Prelude.{◌≡◌, ◌≢◌, ℕ, ◌<◌, length, 
 ghost use Rattle.flk_num.specs.declared.lamp.Lamp.{Lamp as LampView};
 ghost use Rattle.flk_num.specs.declared.rate.Rate.{Rate as RateView};
 ghost use Rattle.flk_job.specs.Table.{lamp_name};
-ghost use Rattle.flk_top.specs.Command.{IsNumber, IsNumberIn, IsLevels, IsCheck, AsksRate, IsTables, AreReportNames, IsReport, Asks, IsNoCommand};
+ghost use Rattle.flk_top.specs.Command.{IsNumber, IsNumberIn, IsLevels, IsCheck, AsksRate, IsTables, AreReportNames, IsReport, IsGen, Asks, IsNoCommand};
 ghost use Rattle.flk_top.specs.declared.command.Command.TheVariants as commands;
 
 use flk_io::Words;
@@ -26,6 +26,15 @@ pub struct ReportCommand {
     pub workers: u32,
 }
 
+/// What `gen` is asked for, beside the names of its two files.
+#[derive(Clone, Copy, Debug)]
+pub struct GenCommand {
+    /// The number from which the draws come.
+    pub seed: u32,
+    /// How long the recording is, from 1 to 8000.
+    pub seconds: u32,
+}
+
 /// What the words ask for.
 #[derive(Clone, Copy, Debug)]
 pub enum Command {
@@ -34,6 +43,7 @@ pub enum Command {
     /// The tables of a lamp at a sampling rate.
     Tables(Lamp, Rate),
     Report(ReportCommand),
+    Gen(GenCommand),
 }
 
 /// The name of the configuration, and the name of the data.
@@ -47,6 +57,11 @@ pub const JOB_WORD: usize = 1;
 pub const REPORT_CONFIGURATION_WORD: usize = 2;
 
 pub const REPORT_DATA_WORD: usize = 3;
+
+/// The names under which `gen` appends the configuration and the data.
+pub const GEN_CONFIGURATION_WORD: usize = 3;
+
+pub const GEN_DATA_WORD: usize = 4;
 
 // One to ten decimal digits.
 fn number(word: &str) -> Option<u64>
@@ -171,6 +186,22 @@ fn report_command(words: &Words) -> Option<ReportCommand>
     Some(ReportCommand { workers })
 }
 
+// What `gen` is asked for, and None exactly where the words don't have its shape.
+fn gen_command(words: &Words) -> Option<GenCommand>
+    ensures some { IfSome result (λ command. Asks words.now (commands.Gen command)) }
+    ensures none { IfNone result ((seed seconds : ℕ) → ¬ IsGen words.now seed seconds) }
+{
+    if words.len() != 5
+        || words.word(0) != "gen"
+        || words.word(GEN_CONFIGURATION_WORD) == words.word(GEN_DATA_WORD)
+    {
+        return None;
+    }
+    let seed = number_in(words.word(1), 0, u32::MAX)?;
+    let seconds = number_in(words.word(2), 1, 8000)?;
+    Some(GenCommand { seed, seconds })
+}
+
 /// What the words ask for, and None exactly where they have no command's shape.
 pub fn command_of(words: &Words) -> Option<Command>
     ensures some { IfSome result (Asks words.now) }
@@ -185,8 +216,11 @@ pub fn command_of(words: &Words) -> Option<Command>
     if let Some((lamp, rate)) = tables_command(words) {
         return Some(Command::Tables(lamp, rate));
     }
-    match report_command(words) {
-        Some(command) => Some(Command::Report(command)),
+    if let Some(command) = report_command(words) {
+        return Some(Command::Report(command));
+    }
+    match gen_command(words) {
+        Some(command) => Some(Command::Gen(command)),
         None => None,
     }
 }

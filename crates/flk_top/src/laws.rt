@@ -1,15 +1,21 @@
 //! Laws of the answer. Nothing here runs.
 
-ghost use Rattle.std.specs.Prelude.{◌≡◌, ℕ, ◌*◌, ◌<◌, List, length, ℤ};
+ghost use Rattle.std.specs.Prelude.{◌≡◌, ℕ, ◌*◌, ◌<◌, ◌≤◌, List, length, ℤ};
 ghost use Rattle.flk_exact.specs.Fraction.{Fraction};
 ghost use Rattle.flk_exact.specs.Run.{IsAdmittedRun};
 ghost use Rattle.flk_exact.specs.HalfPeriod.{AreHalfPeriodValues};
 ghost use Rattle.flk_exact.specs.Extreme.{IsLeast, IsGreatest};
+ghost use Rattle.flk_dat.specs.DataFile.{IsAccepted};
+ghost use Rattle.flk_dat.specs.Records.{layout_of};
+ghost use Rattle.flk_gen.specs.Recording.{records_in, generated_configuration, generated_text, generated_records, generated_data};
 ghost use Rattle.flk_result.specs.RunQuantities.{RunQuantities};
 ghost use Rattle.flk_top.specs.Answer.{IsDueFor, IsDue};
+ghost use Rattle.flk_top.specs.CheckDue.{IsDueForCheck};
 ghost use Rattle.flk_top.specs.Command.{Asks, IsInput};
 ghost use Rattle.flk_top.specs.Headline.{ReportedRecording, AreAcceptedForReport, AreOfRuns};
-ghost use Rattle.flk_top.specs.Outcome.{Outcome};
+ghost use Rattle.flk_top.specs.Configuration.{IsConfiguration};
+ghost use Rattle.flk_top.specs.Outcome.{Outcome, completed};
+ghost use Rattle.flk_top.specs.Text.{check_text};
 ghost use Rattle.flk_top.specs.Told.{Files};
 ghost use Rattle.flk_top.specs.declared.command.Command.{Command as CommandView};
 ghost use Rattle.flk_top.specs.declared.command.Command.TheVariants as commands;
@@ -60,6 +66,18 @@ pub fn report_promise_is_not_empty()
 
 /// The number of workers changes no answer of a report.
 pub fn workers_change_no_answer()
-    ensures { (a b : ReportCommandView) (contents : List (List ℕ)) (o : Outcome)
-        → IsDueFor (commands.Report a) contents o → IsDueFor (commands.Report b) contents o }
+    ensures { (a b : ReportCommandView) (outputs contents : List (List ℕ)) (o : Outcome)
+        → IsDueFor (commands.Report a) outputs contents o → IsDueFor (commands.Report b) outputs contents o }
+{}
+
+/// What is generated is accepted, with any channels selected, and `check` tells its summary.
+pub fn generated_files_are_accepted()
+    ensures configuration { (seconds : ℕ) → 1 ≤ seconds → seconds ≤ 8000
+        → IsConfiguration (generated_text seconds) (generated_configuration seconds) }
+    ensures data_file { (seed seconds : ℕ) → 1 ≤ seconds → seconds ≤ 8000 → (channels : List ℕ)
+        → IsAccepted (layout_of (generated_configuration seconds) channels)
+        (generated_data seed seconds) (generated_records seed (records_in seconds)) }
+    ensures check { (seed seconds : ℕ) → 1 ≤ seconds → seconds ≤ 8000
+        → IsDueForCheck (generated_text seconds) (generated_data seed seconds)
+        (completed (check_text (generated_configuration seconds) 1)) }
 {}

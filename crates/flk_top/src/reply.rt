@@ -1,9 +1,10 @@
 //! A whole answer.
 
 ghost use Rattle.std.specs.Prelude.{◌≡◌, IfOk, string_bytes};
-ghost use Rattle.flk_top.specs.Status.{status_number};
+ghost use Rattle.flk_top.specs.Status.{status_number, cut_off_number};
 
-use flk_io::OutOfMemory;
+use crate::{OUT_OF_MEMORY, WRITE_FAILED};
+use flk_io::{Failed, OutOfMemory};
 use std::alloc::Global;
 
 /// How a command ends whose whole text is composed.
@@ -33,6 +34,46 @@ impl Status {
             Status::Refused => 2,
             Status::ReadFailed => 4,
         }
+    }
+}
+
+/// Why a command ends without a text.
+#[derive(Clone, Copy, Debug, PartialEq, Eq)]
+pub enum CutOff {
+    OutOfMemory,
+    /// An append failed.
+    AppendFailed,
+}
+
+impl CutOff {
+    /// The number with which the program ends: 5 or 6.
+    pub fn number(self) -> u8
+        ensures { result ≡ cut_off_number self }
+    {
+        match self {
+            CutOff::OutOfMemory => OUT_OF_MEMORY,
+            CutOff::AppendFailed => WRITE_FAILED,
+        }
+    }
+}
+
+impl From<OutOfMemory> for CutOff {
+    ghost use Rattle.flk_top.specs.declared.reply.CutOff.TheVariants as cut_offs;
+
+    ghost from_gives = { λ _ e. e ≡ cut_offs.OutOfMemory };
+
+    fn from(_: OutOfMemory) -> CutOff {
+        CutOff::OutOfMemory
+    }
+}
+
+impl From<Failed> for CutOff {
+    ghost use Rattle.flk_top.specs.declared.reply.CutOff.TheVariants as cut_offs;
+
+    ghost from_gives = { λ _ e. e ≡ cut_offs.AppendFailed };
+
+    fn from(_: Failed) -> CutOff {
+        CutOff::AppendFailed
     }
 }
 

@@ -1,7 +1,7 @@
 use Rattle.std.proofs.Common.{rules, string_bytes}
 use Rattle.std.specs.Io.KnownBytes.{Appends}
 use Rattle.flk_io.specs.Causes.{Rose, AddsFront}
-use Rattle.flk_top.proofs.RunLemmas.{done_due, done_cut, done_levels, done_report, written_cut, memory_cut}
+use Rattle.flk_top.proofs.RunLemmas.{done_due, done_cut, done_counted, done_levels, done_report, written_cut, written_counted, cut_off_cut, cut_off_counted}
 use Rattle.flk_top.proofs.run.Goals as goal
 
 -- ---- the text is written whole
@@ -11,15 +11,14 @@ returns-in-Ok-write_all-clause-done g c =
     let was = g.K.Sink.told c.args.sink.now in
     let is = g.K.Sink.told c.write_all.new.sink in
     let text : Appends was.written is.written (string_bytes c.in-Ok.reply.text) = search rules in
-    done_due c.args.words.now c.number.result (g.F.Shelf.told c.args.shelf.now) (g.F.Shelf.told c.answer.new.shelf) was is c.in-Ok.reply c.number.ensures c.answer.ensures.only_reads c.in-Ok.ensures.due text
+    done_due c.args.words.now c.number.result (g.F.Shelf.told c.args.shelf.now) (g.F.Shelf.told c.answer.new.shelf) was is c.in-Ok.reply c.number.ensures c.in-Ok.ensures.whole text
 
 pub returns-in-Ok-write_all-clause-cut : goal.returns-in-Ok-write_all-clause-cut
 returns-in-Ok-write_all-clause-cut g c =
     let was = g.K.Sink.told c.args.sink.now in
     let is = g.K.Sink.told c.write_all.new.sink in
     let text : Appends was.written is.written (string_bytes c.in-Ok.reply.text) = search rules in
-    done_cut c.args.words.now c.number.result (g.F.Shelf.told c.args.shelf.now) (g.F.Shelf.told c.answer.new.shelf) was is c.in-Ok.reply c.number.ensures c.answer.ensures.only_reads c.in-Ok.ensures.honest
-    c.in-Ok.ensures.failed text
+    done_cut c.args.words.now c.number.result (g.F.Shelf.told c.args.shelf.now) (g.F.Shelf.told c.answer.new.shelf) was is c.in-Ok.reply c.number.ensures c.in-Ok.ensures.honest c.in-Ok.ensures.failed text
 
 pub returns-in-Ok-write_all-clause-levels : goal.returns-in-Ok-write_all-clause-levels
 returns-in-Ok-write_all-clause-levels g c =
@@ -29,7 +28,7 @@ returns-in-Ok-write_all-clause-levels g c =
     let new = g.F.Shelf.told c.answer.new.shelf in
     let text : Appends was.written is.written (string_bytes c.in-Ok.reply.text) = search rules in
     done_levels c.args.words.now c.number.result old new was is
-    (done_due c.args.words.now c.number.result old new was is c.in-Ok.reply c.number.ensures c.answer.ensures.only_reads c.in-Ok.ensures.due text)
+    (done_due c.args.words.now c.number.result old new was is c.in-Ok.reply c.number.ensures c.in-Ok.ensures.whole text)
 
 pub returns-in-Ok-write_all-clause-report : goal.returns-in-Ok-write_all-clause-report
 returns-in-Ok-write_all-clause-report g c =
@@ -39,7 +38,7 @@ returns-in-Ok-write_all-clause-report g c =
     let new = g.F.Shelf.told c.answer.new.shelf in
     let text : Appends was.written is.written (string_bytes c.in-Ok.reply.text) = search rules in
     done_report c.args.words.now c.number.result old new was is
-    (done_due c.args.words.now c.number.result old new was is c.in-Ok.reply c.number.ensures c.answer.ensures.only_reads c.in-Ok.ensures.due text)
+    (done_due c.args.words.now c.number.result old new was is c.in-Ok.reply c.number.ensures c.in-Ok.ensures.whole text)
 
 -- ---- a write failed
 
@@ -49,10 +48,10 @@ returns-clause-cut g c =
     let is = g.K.Sink.told c.write_all.new.sink in
     let rose : Rose was.faults is.faults = search rules in
     let front : AddsFront was.written is.written (string_bytes c.in-Ok.reply.text) = search rules in
-    written_cut c.args.words.now (g.F.Shelf.told c.args.shelf.now) (g.F.Shelf.told c.answer.new.shelf) was is c.in-Ok.reply c.answer.ensures.only_reads c.in-Ok.ensures.honest c.in-Ok.ensures.due c.in-Ok.ensures.failed rose front
+    written_cut c.args.words.now (g.F.Shelf.told c.args.shelf.now) (g.F.Shelf.told c.answer.new.shelf) was is c.in-Ok.reply c.in-Ok.ensures.honest c.in-Ok.ensures.whole c.in-Ok.ensures.failed rose front
 
--- ---- memory was short
+-- ---- there is no text
 
 pub returns-in-Err-clause-cut : goal.returns-in-Err-clause-cut
 returns-in-Err-clause-cut g c =
-    memory_cut c.args.words.now (g.F.Shelf.told c.args.shelf.now) (g.F.Shelf.told c.answer.new.shelf) (g.K.Sink.told c.args.sink.now) c.answer.ensures.only_reads
+    cut_off_cut c.args.words.now c.number-in-Err.result (g.F.Shelf.told c.args.shelf.now) (g.F.Shelf.told c.answer.new.shelf) (g.K.Sink.told c.args.sink.now) c.in-Err.cut_off c.number-in-Err.ensures c.in-Err.ensures.cut

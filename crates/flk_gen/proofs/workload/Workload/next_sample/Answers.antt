@@ -9,7 +9,7 @@ returns-clause-some c = λ seed all n stands.
     let fits_a : FitsSigned w32 c.value.result = search rules in
     let fits_b : FitsSigned w32 c.value-2.result = search rules in
     let fits_c : FitsSigned w32 c.value-3.result = search rules in
-    let a : c.value.result ≡ value seed 0 n = c.value.ensures seed all n stands in
-    let b : c.value-2.result ≡ value seed 1 n = c.value-2.ensures seed all n stands in
-    let c' : c.value-3.result ≡ value seed 2 n = c.value-3.ensures seed all n stands in
-    (less, simp to_z-of_z (rw (a, b, c') refl), c.step.ensures seed all n stands)
+    let a : c.value.result ≡ value seed 0 n = c.value.ensures.value seed all n stands in
+    let b : c.value-2.result ≡ value seed 1 n = c.value-2.ensures.value seed all n stands in
+    let c' : c.value-3.result ≡ value seed 2 n = c.value-3.ensures.value seed all n stands in
+    (less, simp to_z-of_z (rw (a, b, c') refl), c.step.ensures.stands seed all n stands)

@@ -3,8 +3,8 @@ use Rattle.std.specs.Int.{w32}
 use Rattle.flk_gen.specs.Workload.{draw, depth_of, wave, lowered, shift}
 use Rattle.flk_gen.proofs.workload.Workload.value.Goals as goal
 
-pub returns : goal.returns
-returns c = λ seed all n stands.
+pub returns-clause-value : goal.returns-clause-value
+returns-clause-value c = λ seed all n stands.
     let fits : FitsSigned w32 c.lowered.result = search rules in
     let l : c.lowered.result ≡ lowered c.wave.result c.depth.result = search rules in
     let w : c.wave.result ≡ wave c.place_ahead.result = search rules in

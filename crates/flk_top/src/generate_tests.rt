@@ -1,0 +1,198 @@
+use crate::run;
+use crate::tests::{Open, words_of};
+use flk_io::{MemShelf, MemSink, OutOfMemory};
+use std::alloc::Global;
+use std::test::Fail;
+use std::thread::Threads;
+
+// The configuration of a second.
+const CONFIGURATION: &str = "GENERATED,FLK,1999
+3,3A,0D
+1,UA,A,,V,0.0125,0,0,-99999,99999,1,1,P
+2,UB,B,,V,0.0125,0,0,-99999,99999,1,1,P
+3,UC,C,,V,0.0125,0,0,-99999,99999,1,1,P
+50
+1
+2400,2400
+01/01/2000,00:00:00.000000
+01/01/2000,00:00:00.000000
+ASCII
+1
+";
+
+// The first two records and the last one of seed 1 and a second.
+const FIRST: &str = "1,0,0,-22401,22536\r\n2,416,3397,-23897,20645\r\n";
+
+const LAST: &str = "\r\n2400,999583,-3397,-20584,23968\r\n";
+
+const SUMMARY: &str = "gen\nrecords 2400\nlast -3397 -20584 23968\n";
+
+// A text with CR before each LF.
+fn with_cr(alloc: Global, text: &str) -> Result<String, OutOfMemory> {
+    let mut out = String::new(alloc);
+    for line in text.lines() {
+        out.push_str(line)?;
+        out.push_str("\r\n")?;
+    }
+    Ok(out)
+}
+
+// An empty shelf with room for so many bytes of data, to which a call moves at most so many.
+fn empty_shelf(alloc: Global, room: usize, most: usize) -> Result<MemShelf, OutOfMemory> {
+    let mut shelf = MemShelf::new(alloc);
+    shelf.room("C", 1000)?;
+    shelf.room("D", room)?;
+    shelf.piece(most);
+    Ok(shelf)
+}
+
+// A shelf on which what was added to the first one, and this job, can be read.
+fn next_shelf(alloc: Global, shelf: &MemShelf, job: &str) -> Result<MemShelf, OutOfMemory> {
+    let mut next = MemShelf::new(alloc);
+    next.put("J", job.as_bytes())?;
+    next.put("C", shelf.added("C"))?;
+    next.put("D", shelf.added("D"))?;
+    Ok(next)
+}
+
+// The status and the text of these words.
+fn answer_of<R: Threads + Sync>(
+    rt: &R,
+    alloc: Global,
+    shelf: &mut MemShelf,
+    line: &str,
+) -> Result<(u8, Vec<u8>), OutOfMemory> {
+    let words = words_of(alloc, line)?;
+    let mut sink = MemSink::new(alloc, 4000, 500)?;
+    let status = run(rt, alloc, &words, shelf, &mut sink, &Open);
+    let mut text = Vec::new(alloc);
+    text.extend_from_slice(sink.written())?;
+    Ok((status, text))
+}
+
+#[test]
+fn a_generated_second(rt: HostRuntime) -> Result<(), Fail> {
+    let alloc = rt.alloc();
+    let configuration = with_cr(alloc, CONFIGURATION)?;
+    for most in [65_536, 1000, 7] {
+        let mut shelf = empty_shelf(alloc, 100_000, most)?;
+        let (status, text) = answer_of(&rt, alloc, &mut shelf, "gen 1 1 C D")?;
+        assert_eq!(rt; status, 0);
+        assert_eq!(rt; text.as_slice(), SUMMARY.as_bytes());
+        assert_eq!(rt; shelf.added("C"), configuration.as_bytes());
+        assert!(rt; shelf.added("D").starts_with(FIRST.as_bytes()));
+        assert!(rt; shelf.added("D").ends_with(LAST.as_bytes()));
+        assert_eq!(rt; shelf.faults(), 0);
+        let mut next = next_shelf(alloc, &shelf, "")?;
+        let (status, text) = answer_of(&rt, alloc, &mut next, "check C D")?;
+        assert_eq!(rt; status, 0);
+        assert_eq!(rt;
+            text.as_slice(),
+            b"check\nanalog 3 digital 0\nrecords 2400\nfirst 1\nform ASCII\n".as_slice()
+        );
+    }
+    Ok(())
+}
+
+#[test]
+fn words_that_generate_nothing(rt: HostRuntime) -> Result<(), Fail> {
+    for line in [
+        "gen 1 0 C D",
+        "gen 1 8001 C D",
+        "gen 4294967296 1 C D",
+        "gen -1 1 C D",
+        "gen 1 1 C C",
+        "gen 1 1 C",
+        "gen 1 1 C D E",
+    ] {
+        let mut shelf = empty_shelf(rt.alloc(), 100_000, 65_536)?;
+        let (status, text) = answer_of(&rt, rt.alloc(), &mut shelf, line)?;
+        assert_eq!(rt; status, 2, "{line}");
+        assert_eq!(rt; text.as_slice(), b"fault usage\n".as_slice());
+        assert!(rt; shelf.added("C").is_empty() && shelf.added("D").is_empty());
+    }
+    Ok(())
+}
+
+// Each append of a generated second fails in turn: nothing is written, and what was appended is a front of what was to come.
+#[test]
+fn each_append_fails(rt: HostRuntime) -> Result<(), Fail> {
+    let alloc = rt.alloc();
+    let mut whole = empty_shelf(alloc, 100_000, 4096)?;
+    let (status, _) = answer_of(&rt, alloc, &mut whole, "gen 1 1 C D")?;
+    assert_eq!(rt; status, 0);
+    let mut call = 1;
+    let mut reached = 0;
+    while reached < whole.added("D").len() && call < 100 {
+        let mut shelf = empty_shelf(alloc, 100_000, 4096)?;
+        shelf.fail_at(call)?;
+        let (status, text) = answer_of(&rt, alloc, &mut shelf, "gen 1 1 C D")?;
+        reached = shelf.added("D").len();
+        if reached < whole.added("D").len() {
+            assert_eq!(rt; (status, shelf.faults()), (5, 1));
+            assert!(rt; text.is_empty());
+            assert!(rt; whole.added("C").starts_with(shelf.added("C")));
+            assert!(rt; whole.added("D").starts_with(shelf.added("D")));
+            assert!(rt; reached == 0 || shelf.added("C") == whole.added("C"));
+        }
+        call += 1;
+    }
+    // The configuration takes one append, and each piece of 4096 bytes one; the call after them is never made.
+    assert!(rt; call > 20 && call < 100);
+    Ok(())
+}
+
+// No place is left under the second name: the configuration is whole.
+#[test]
+fn no_place_for_the_data(rt: HostRuntime) -> Result<(), Fail> {
+    let alloc = rt.alloc();
+    let configuration = with_cr(alloc, CONFIGURATION)?;
+    let mut shelf = empty_shelf(alloc, 0, 65_536)?;
+    let (status, text) = answer_of(&rt, alloc, &mut shelf, "gen 1 1 C D")?;
+    assert_eq!(rt; (status, shelf.faults()), (5, 1));
+    assert!(rt; text.is_empty());
+    assert_eq!(rt; shelf.added("C"), configuration.as_bytes());
+    assert!(rt; shelf.added("D").is_empty());
+    Ok(())
+}
+
+// The job of an interval of ten minutes behind a minute, on all three channels.
+const JOB: &str = "lamp = \"230/50\"\nnominal_mv = 230000\nuncertainty_uv = 6250\nchannels = [1, 2, 3]\ndmax = 7\n";
+
+// Eleven generated minutes have one report for each number of workers.
+#[test]
+fn a_generated_report(rt: HostRuntime) -> Result<(), Fail> {
+    let alloc = rt.alloc();
+    let mut shelf = empty_shelf(alloc, 70_000_000, 65_536)?;
+    let (status, _) = answer_of(&rt, alloc, &mut shelf, "gen 1 660 C D")?;
+    assert_eq!(rt; status, 0);
+    let mut first = Vec::new(alloc);
+    for line in ["report J C D 1", "report J C D 2", "report J C D 6"] {
+        let mut next = next_shelf(alloc, &shelf, JOB)?;
+        let (status, text) = answer_of(&rt, alloc, &mut next, line)?;
+        assert!(rt; is_report(&text, status), "{line}");
+        if first.is_empty() {
+            first.extend_from_slice(&text)?;
+        }
+        assert!(rt; text.as_slice() == first.as_slice(), "{line}");
+    }
+    Ok(())
+}
+
+// A report of one interval on three channels without doubt, whose last line is that of the status.
+fn is_report(text: &[u8], status: u8) -> bool {
+    let Ok(text) = str::from_utf8(text) else {
+        return false;
+    };
+    let end = match status {
+        0 => "\nverdict pass\n",
+        1 => "\nverdict fail\n",
+        _ => "\nverdict undecided\n",
+    };
+    status != 2
+        && status < 4
+        && text.starts_with("report\n")
+        && text.contains("\nrecords 1584000\nintervals 1\n")
+        && text.split("\ndoubtful 0\n").count() == 4
+        && text.ends_with(end)
+}
