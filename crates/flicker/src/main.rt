@@ -11,9 +11,10 @@ ghost use Rattle.flk_top.specs.Told.{TellsInputs};
 use flk_io::{FileShelf, Shelf, Sink, StdSink, Words};
 use flk_top::{Gate, OUT_OF_MEMORY, run};
 use std::alloc::Global;
+use std::fs::File;
 use std::process::ExitCode;
 use std::thread::Threads;
-use std::{env, io};
+use std::{env, fs, io};
 
 /// A gate at which nothing is done.
 struct Open;
@@ -26,6 +27,14 @@ impl Gate for Open {
     fn enter(&self, phase: usize) {
         let _ = phase;
     }
+}
+
+// Opens the null device three times, to be read. A file that is opened gets the least number that is free, so these take
+// the places of closed standard streams, and no file of a command can get the number of standard output. What is written
+// to them fails. Where a stream isn't closed, they do nothing, and whether one can be opened matters not.
+fn take_closed_places(rt: &HostRuntime) -> [io::Result<File>; 3] {
+    let null = "/dev/null";
+    [fs::open(rt, null), fs::open(rt, null), fs::open(rt, null)]
 }
 
 // The words of the command line after the program's name. The error is InvalidData where one isn't UTF-8 text.
@@ -64,6 +73,7 @@ fn exit_code_of<R: Threads + Sync, F: Shelf, K: Sink, G: Gate + Sync>(
 }
 
 fn main(rt: HostRuntime) -> ExitCode {
+    let _places = take_closed_places(&rt);
     let alloc = rt.alloc();
     let words = match words_of(&rt, alloc) {
         Ok(words) => words,
