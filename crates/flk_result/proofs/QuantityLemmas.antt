@@ -38,7 +38,7 @@ use Rattle.flk_result.specs.Conditions.{Conditions, half_in, window_in, of_inter
 use Rattle.flk_result.specs.RunQuantities.{RunQuantities, AreSmoothedLevels, IsLongTermOfTwelve, AreQuantities}
 use Rattle.flk_result.proofs.LengthLemmas.{outputs_length, sections_length, levels_length, interval_some, list_by_index}
 use Rattle.flk_result.proofs.HoldLemmas.{window_some}
-use Rattle.flk_result.proofs.ExistLemmas.{half_some}
+use Rattle.flk_num.proofs.RateLemmas.{half_some}
 
 -- ---- levels of fractions of one value
 

@@ -53,7 +53,7 @@ use Rattle.flk_result.specs.Promise.{IsFilterOf}
 use Rattle.flk_result.specs.Widths.{IsOwnRun, CoversSignal, KeepsSeverityWidths, KeepsLongTermWidth, CoversHalfPeriods, KeepsChangeWidths, KeepsSettledWidths, KeepsWidths}
 use Rattle.flk_result.proofs.LengthLemmas.{intervals_length}
 use Rattle.flk_result.proofs.HoldLemmas.{window_some, exponent_high}
-use Rattle.flk_result.proofs.ExistLemmas.{half_some}
+use Rattle.flk_num.proofs.RateLemmas.{half_some}
 use Rattle.flk_result.proofs.SettledLemmas.{settled_hull}
 
 exponent_low : (rate : Rate) → adaptor_exponent rate ≤ 17
