@@ -1,11 +1,10 @@
 -- The data of a generated recording are accepted, whichever channels are selected.
-use Rattle.std.proofs.Common.{◌≡◌, ◌≢◌, ℕ, zero, suc, ◌+◌, ◌*◌, ◌<◌, ◌≤◌, List, [], ◌∷◌, length, get_or, map, ℤ, pos, negsuc, refl, sym, ap, ◌∙◌, subst, arith}
+use Rattle.std.proofs.Common.{◌≡◌, ◌≢◌, ℕ, zero, suc, ◌+◌, ◌<◌, ◌≤◌, List, length, ℤ, pos, negsuc, refl, sym, ap, ◌∙◌, subst, arith}
 use Rattle.std.specs.Prelude.{unsigned_abs, slice_index_or}
 use Rattle.std.proofs.lemmas.Int.{ints}
 use Rattle.std.proofs.lemmas.List.FromFn.{length-map-range_with_len, get_or-map-range_with_len}
-use Rattle.flk_field.specs.declared.form.Form.TheVariants.{Ascii}
-use Rattle.flk_dat.specs.Records.{DataRecord, no_record, record_at, HasWidth, Layout, layout_of, AreConsecutive, IsPresent, ArePresent}
-use Rattle.flk_dat.specs.DataFile.{IsFile, IsAccepted}
+use Rattle.flk_dat.specs.Records.{DataRecord, no_record, record_at, HasWidth, layout_of, AreConsecutive}
+use Rattle.flk_dat.specs.DataFile.{IsAccepted}
 use Rattle.flk_dat.specs.Written.{IsWritable}
 use Rattle.flk_dat.proofs.WrittenFiles.{written_file}
 use Rattle.flk_gen.specs.Recording.{records_in, generated_configuration, generated_record, generated_records, generated_lines, generated_data}
@@ -44,12 +43,12 @@ data_accepted seed seconds some most channels =
     let rs = generated_records seed count in
     let long = generated_count seed count in
     let width : (i : ℕ) → i < length rs → HasWidth (length l.selected) l.digital (record_at rs i) = λ i lt.
-        subst (HasWidth (length l.selected) l.digital) (sym (generated_at seed count i (omega (arith, lt, long)))) (record { analog_count = refl; digital_count = refl }) in
+    subst (HasWidth (length l.selected) l.digital) (sym (generated_at seed count i (omega (arith, lt, long)))) (record { analog_count = refl; digital_count = refl }) in
     let sets : (i : ℕ) → i < length rs → IsWritable l.form (record_at rs i) = λ i lt.
-        let less : i < count = omega (arith, lt, long) in
-        subst (IsWritable l.form) (sym (generated_at seed count i less)) (can_write seed i (omega (arith, less, most))) in
+    let less : i < count = omega (arith, lt, long) in
+    subst (IsWritable l.form) (sym (generated_at seed count i less)) (can_write seed i (omega (arith, less, most))) in
     record {
       file = written_file l rs (omega (arith, some)) (omega arith) (omega arith) long (consecutive seed count) width sets;
       present = λ k lt i chosen.
-        subst (λ (r : DataRecord). slice_index_or r.analog i (pos 0) ≢ pos 99999) (sym (generated_at seed count k (omega (arith, lt, long)))) (present_at seed k i);
+          subst (λ (r : DataRecord). slice_index_or r.analog i (pos 0) ≢ pos 99999) (sym (generated_at seed count k (omega (arith, lt, long)))) (present_at seed k i);
     }

@@ -1,10 +1,9 @@
 -- The configuration of a generated recording can be written.
-use Rattle.std.proofs.Common.{◌≡◌, ℕ, ◌+◌, ◌*◌, ◌%◌, ◌^◌, ◌<◌, ◌≤◌, List, [], ◌∷◌, codes, ℤ, pos, neg_ℤ, refl, arith, inl, inr}
-use Rattle.std.specs.Prelude.{All, ◌≢◌}
+use Rattle.std.proofs.Common.{ℕ, ◌*◌, ◌^◌, ◌≤◌, List, [], ◌∷◌, codes, pos, neg_ℤ, refl, arith, inl, inr}
 use Rattle.std.proofs.lemmas.Int.{ints}
 use Rattle.std.proofs.lemmas.List.Elements.{All-nil, All-cons}
 use Rattle.flk_cfg.specs.Valid.{IsName, IsValue, IsValidStamp, IsValidAnalog, IsValidDigital, IsValid}
-use Rattle.flk_gen.specs.Recording.{whole_decimal, generated_channel, start, records_in, generated_configuration}
+use Rattle.flk_gen.specs.Recording.{whole_decimal, generated_channel, start, generated_configuration}
 
 -- ---- texts
 
@@ -55,7 +54,7 @@ channel id ph is phase = record {
 instant : IsValidStamp start
 instant = record {
   from = omega (arith, ints);
-  civil = ((omega (arith, ints), omega (arith, ints)), ((omega (arith, ints), omega (arith, ints)), (omega (arith, ints), omega (arith, ints))));
+  civil = ((omega (arith, ints), omega (arith, ints)), (omega (arith, ints), omega (arith, ints)), (omega (arith, ints), omega (arith, ints)));
   hour = omega arith;
   minute = omega arith;
   second = omega arith;

@@ -1,7 +1,7 @@
 -- The lines of a generated recording, record by record.
-use Rattle.std.proofs.Common.{◌≡◌, ◌≢◌, ℕ, zero, suc, ◌+◌, ◌-◌, ◌*◌, ◌/◌, ◌%◌, ◌^◌, ◌<◌, ◌≤◌, List, [], ◌∷◌, ◌++◌, length, get_or, map, ℤ, pos, negsuc, Option, Some, refl, sym, ap, ◌∙◌, subst, arith, length-append, append-nil, append_assoc, codes}
+use Rattle.std.proofs.Common.{◌≡◌, ℕ, zero, suc, ◌+◌, ◌*◌, ◌/◌, ◌<◌, ◌≤◌, List, [], ◌∷◌, ◌++◌, length, ℤ, pos, negsuc, refl, sym, ap, ◌∙◌, arith, length-append, append-nil, append_assoc, codes}
 use Rattle.std.specs.Prelude.{All, unsigned_abs}
-use Rattle.std.specs.List.{flat_map, range_with_len}
+use Rattle.std.specs.List.{flat_map}
 use Rattle.std.specs.Fmt.{decimal}
 use Rattle.std.proofs.lemmas.Fmt.{length-decimal-le}
 use Rattle.std.proofs.lemmas.Grind.{flat_map-append}
@@ -10,9 +10,8 @@ use Rattle.std.proofs.lemmas.List.Elements.{All-nil, All-cons, All-head, All-tai
 use Rattle.std.proofs.lemmas.List.FromFn.{map-range_with_len_more}
 use Rattle.flk_field.specs.declared.form.Form.TheVariants.{Ascii}
 use Rattle.flk_text.specs.Fields.{joined_fields}
-use Rattle.flk_dat.specs.Records.{DataRecord, HasWidth}
 use Rattle.flk_dat.specs.SampleFields.{IsSampleValue}
-use Rattle.flk_dat.specs.Written.{IsAsciiRecord, whole_text, value_field, record_fields, written_line, written_record}
+use Rattle.flk_dat.specs.Written.{IsAsciiRecord, value_field, record_fields, written_record}
 use Rattle.flk_dat.proofs.WrittenText.{fields_joined_are}
 use Rattle.flk_gen.specs.Recording.{recorded, generated_record, generated_records, generated_lines}
 use Rattle.flk_gen.specs.Workload.{value, values}

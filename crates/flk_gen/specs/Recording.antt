@@ -1,6 +1,6 @@
--- The files of the generated recording: a configuration of three voltages at 50 Hz, and ASCII data of 2400 samples a second
--- (IEEE C37.111-1999, clauses 5 and 6).
-use Rattle.std.specs.Prelude.{◌≡◌, ℕ, ◌+◌, ◌*◌, ◌/◌, ◌^◌, ◌≤◌, List, [], ◌∷◌, map, codes, ℤ, pos, negsuc, neg_ℤ, ◌*ℤ◌, Option, Some}
+-- The files of the generated recording: a configuration of three voltages at 50 Hz, and ASCII data of 2400 samples a
+-- second (IEEE C37.111-1999, clauses 5 and 6).
+use Rattle.std.specs.Prelude.{◌≡◌, ℕ, ◌+◌, ◌*◌, ◌/◌, ◌^◌, ◌≤◌, List, [], ◌∷◌, map, codes, ℤ, pos, neg_ℤ, ◌*ℤ◌, Some}
 use Rattle.std.specs.List.{flat_map, range_with_len}
 use Rattle.flk_num.specs.declared.rate.Rate.TheVariants.{R2400}
 use Rattle.flk_text.specs.declared.decimals.DecimalValue.{DecimalValue}
@@ -70,7 +70,8 @@ generated_text seconds = canonical (generated_configuration seconds)
 
 -- ---- the data
 
--- the record of the sample at a place, counted from 0: its number counts from 1, and its time stamp is in microseconds, rounded down
+-- the record of the sample at a place, counted from 0: its number counts from 1, and its time stamp is in microseconds,
+-- rounded down
 abbrev pub recorded : (place : ℕ) → List ℤ → DataRecord
 recorded place sample =
     record { number = place + 1; stamp = Some (1250 * place / 3); analog = sample; digital = [] }

@@ -61,7 +61,8 @@ fn voltage(alloc: Global, id: &[u8], ph: &[u8]) -> Result<Analog, AllocError>
     })
 }
 
-/// The configuration of a generated recording of 1 to 8000 seconds: three voltages at 50 Hz, and ASCII data of 2400 samples a second.
+/// The configuration of a generated recording of 1 to 8000 seconds: three voltages at 50 Hz, and ASCII data of 2400
+/// samples a second.
 pub fn generated_configuration(alloc: Global, seconds: u32) -> Result<Config, AllocError>
     requires { (1 ≤ seconds) × (seconds ≤ 8000) }
     ensures { IfOk result (λ c. c ≡ configuration_of seconds) }

@@ -1,6 +1,6 @@
 //! The data of a generated recording, in pieces.
 
-ghost use Rattle.std.specs.Prelude.{◌≡◌, ℕ, ◌+◌, ◌-◌, ◌<◌, ◌≤◌, ◌++◌, All, length, vec_len, unsigned_abs, IfOk, OnOk, IsTrue};
+ghost use Rattle.std.specs.Prelude.{◌≡◌, ℕ, ◌+◌, ◌-◌, ◌<◌, ◌≤◌, ◌++◌, All, List, length, vec_len, unsigned_abs, IfOk, OnOk, IsTrue};
 ghost use Rattle.flk_field.specs.declared.form.Form.TheVariants.{Ascii};
 ghost use Rattle.flk_dat.specs.Written.{written_record};
 ghost use Rattle.flk_gen.specs.Recording.{recorded, IsGenerated, IsOneRow};
@@ -14,7 +14,8 @@ use std::alloc::{AllocError, Global};
 /// How many records a piece has, each of at most 64 bytes.
 const PIECE_RECORDS: usize = 1024;
 
-// Appends the line of the sample at this place, counted from 0, in which each value is below 2^16 in size. The block has room for it alone.
+// Appends the line of the sample at this place, counted from 0, in which each value is at most 2^16 in size. The block
+// has room for it alone.
 fn push_line(
     out: &mut Vec<u8>,
     row: &mut Block,
@@ -74,8 +75,8 @@ impl Recording {
         })
     }
 
-    /// Puts the lines of the next records in the place of what `piece` holds: at most 65,536 bytes. It answers whether there were
-    /// any. An error comes for want of memory alone.
+    /// Puts the lines of the next records in the place of what `piece` holds: at most 65,536 bytes. It answers whether
+    /// there were any. An error comes for want of memory alone.
     pub fn next_piece(
         &mut self,
         configuration: &Config,
@@ -104,11 +105,7 @@ impl Recording {
     }
 
     // Appends the line of the next record, where there is one.
-    fn push_record(
-        &mut self,
-        configuration: &Config,
-        out: &mut Vec<u8>,
-    ) -> Result<bool, AllocError>
+    fn push_record(&mut self, configuration: &Config, out: &mut Vec<u8>) -> Result<bool, AllocError>
         requires { IsGenerated configuration.now }
         ensures gives { (seed seconds n : ℕ) → HasGiven self.old seed seconds n
             → IfOk result (λ more. (bytes : List ℕ) × (out.new.items ≡ out.old.items ++ bytes)
