@@ -68,20 +68,22 @@ const FILTERS: [[Filter; 2]; 2] = [
 ];
 
 struct Section {
+    /// The coefficients over 2^61.
     k: [i64; 5],
-    s1: i128,
-    s2: i128,
+    s1: i64,
+    s2: i64,
 }
 
-fn product(k: i64, v: i128) -> i128 {
-    (i128::from(k) * v) >> 32
+/// Rounded down: the upper half of a product of 128 bits.
+fn product(k: i64, v: i64) -> i64 {
+    ((i128::from(k) * i128::from(8 * v)) >> 64) as i64
 }
 
 impl Section {
-    fn step(&mut self, x: i128) -> i128 {
+    fn step(&mut self, x: i64) -> i64 {
         let [b0, b1, b2, a1, a2] = self.k;
         let y = product(b0, x) + self.s1;
-        self.s1 = product(b1, x) - product(a1, y) + self.s2;
+        self.s1 = product(b1, x) + self.s2 - product(a1, y);
         self.s2 = product(b2, x) - product(a2, y);
         y
     }
@@ -103,8 +105,8 @@ impl Cascade {
     pub fn new(hertz: u32, rate: u32) -> Cascade {
         let filter = &FILTERS[usize::from(hertz == 60)][usize::from(rate == 4800)];
         // The compiler is not to make a program of these seven sections alone.
-        let mut sections = black_box(filter.sections).map(|k| Section { k, s1: 0, s2: 0 });
-        sections[0].s1 = -65536 * i128::from(sections[0].k[0]);
+        let mut sections = black_box(filter.sections).map(|k| Section { k: k.map(|b| b << 29), s1: 0, s2: 0 });
+        sections[0].s1 = -65536 * filter.sections[0][0];
         Cascade { sections, bounds: filter.bounds, greatest: 0, radius: radius_of(&filter.bounds, 0) }
     }
 
@@ -113,6 +115,6 @@ impl Cascade {
             self.greatest = radius;
             self.radius = radius_of(&self.bounds, radius);
         }
-        (self.sections.iter_mut().fold(mid, |x, section| section.step(x)), self.radius)
+        (i128::from(self.sections.iter_mut().fold(mid as i64, |x, section| section.step(x))), self.radius)
     }
 }

@@ -1,6 +1,7 @@
 mod Held
 pub mod SectionLemmas
 pub mod RangeLemmas
+pub mod NarrowLemmas
 pub mod RadiusLemmas
 pub mod CascadeLemmas
 pub mod RowLemmas

@@ -21,7 +21,7 @@ use Rattle.flk_cert.proofs.RunLemmas.{lost_of, product_rounded}
 use Rattle.flk_cert.proofs.GainLemmas.{gain_rounding_small}
 use Rattle.flk_section.specs.Radius.{radius_after}
 use Rattle.flk_section.specs.Kept.{rest, IsNearRest, IsReachedState}
-use Rattle.flk_section.proofs.SectionLemmas.{outputs_near_rest}
+use Rattle.flk_section.proofs.SectionLemmas.{outputs_near_rest, radius_natural}
 
 -- a rounded product by a coefficient
 pub product_small : (k v : ℤ) → unsigned_abs k ≤ 2 ^ 33 → unsigned_abs (product k v) ≤ 2 * unsigned_abs v + 1
@@ -46,9 +46,9 @@ wide_near : (from_one : Bool) (X : ℤ) → unsigned_abs X < 2 ^ 60 → IsNearRe
 wide_near true X h = record { near = omega (arith, ints) }
 wide_near false X h = record { near = omega (arith, ints) }
 
-rest_near : (from_one : Bool) → IsNearRest from_one wide (rest from_one)
-rest_near true = record { near = omega (arith, ints) }
-rest_near false = record { near = omega (arith, ints) }
+rest_near : (from_one : Bool) (r : ℤ) → pos 0 ≤ℤ r → IsNearRest from_one r (rest from_one)
+rest_near true r h = record { near = omega (arith, ints, h) }
+rest_near false r h = record { near = omega (arith, ints, h) }
 
 rest_small : (from_one : Bool) → unsigned_abs (rest from_one) ≤ 2 ^ 48
 rest_small true = omega arith
@@ -69,30 +69,42 @@ radius_wide g h =
     let least : (c *ℤ pos (2 ^ 32) -ℤ pos (2 ^ 32)) <ℤ (wide *ℤ input_of g) = (IsCeil-at (wide *ℤ input_of g) (pos (2 ^ 32)) c (omega (arith, ints)) refl).least in
     omega (arith, ints, least, h, gain_rounding_small g)
 
+-- ---- states after inputs that lie near rest
+
 -- the first state is the output for the input at rest, but for one product
+pub first_within : (g : Gain) (from_one : Bool) (r : ℤ) (Xs : List ℤ) → MayStart (coefs_of g) from_one → pos 0 ≤ℤ r → All (IsNearRest from_one r) Xs
+    → pos (unsigned_abs (state (coefs_of g) from_one Xs).s1) ≤ℤ (radius_after g r +ℤ pos (2 ^ 49 + 1))
+first_within g from_one r Xs may natural near =
+    let k : Coefs = coefs_of g in
+    let all = outputs_near_rest g from_one r (rest from_one ∷ Xs) may natural (All-cons (IsNearRest from_one r) (rest from_one) Xs (rest_near from_one r natural) near) in
+    let out = (All-head (IsNearRest false (radius_after g r)) (output k (state k from_one Xs) (rest from_one)) (outputs k from_one Xs) all).near in
+    let p = product_small k.b0 (rest from_one) k.b0_small in
+    omega (arith, ints, out, p, rest_small from_one)
+
+-- the second one is a sum of two products
+pub second_within : (g : Gain) (from_one : Bool) (r : ℤ) (Xs : List ℤ) → MayStart (coefs_of g) from_one → pos 0 ≤ℤ r → All (IsNearRest from_one r) Xs
+    → pos (unsigned_abs (state (coefs_of g) from_one Xs).s2) ≤ℤ (r +ℤ r +ℤ radius_after g r +ℤ radius_after g r +ℤ pos (2 ^ 49 + 2))
+second_within g true r [] may natural near = omega (arith, ints, natural, radius_natural g r natural)
+second_within g false r [] may natural near = omega (arith, ints, natural, radius_natural g r natural)
+second_within g from_one r (X ∷ Xs) may natural near =
+    let k : Coefs = coefs_of g in
+    let all = outputs_near_rest g from_one r (X ∷ Xs) may natural near in
+    let Y : ℤ = output k (state k from_one Xs) X in
+    let out = (All-head (IsNearRest false (radius_after g r)) Y (outputs k from_one Xs) all).near in
+    let p : unsigned_abs (product k.b2 X) ≤ 2 * unsigned_abs X + 1 = product_small k.b2 X k.b2_small in
+    let q : unsigned_abs (product k.a2 Y) ≤ 2 * unsigned_abs Y + 1 = product_small k.a2 Y k.a2_small in
+    let x = (All-head (IsNearRest from_one r) X Xs near).near in
+    omega (arith, ints, p, q, x, out, rest_small from_one)
+
+-- ---- after inputs below 2^60
+
 first_reached : (g : Gain) (from_one : Bool) (Xs : List ℤ) → MayStart (coefs_of g) from_one → input_of g <ℤ pos (2 ^ 36) → All (λ X. unsigned_abs X < 2 ^ 60) Xs
     → unsigned_abs (state (coefs_of g) from_one Xs).s1 ≤ 2 ^ 66
-first_reached g from_one Xs may input small =
-    let k : Coefs = coefs_of g in
-    let near = outputs_near_rest g from_one wide (rest from_one ∷ Xs) may (omega (arith, ints)) (All-cons (IsNearRest from_one wide) (rest from_one) Xs (rest_near from_one) (all_wide from_one Xs small)) in
-    let out = (All-head (IsNearRest false (radius_after g wide)) (output k (state k from_one Xs) (rest from_one)) (outputs k from_one Xs) near).near in
-    let p = product_small k.b0 (rest from_one) k.b0_small in
-    omega (arith, ints, out, p, rest_small from_one, radius_wide g input)
+first_reached g from_one Xs may input small = omega (arith, ints, first_within g from_one wide Xs may (omega (arith, ints)) (all_wide from_one Xs small), radius_wide g input)
 
 second_reached : (g : Gain) (from_one : Bool) (Xs : List ℤ) → MayStart (coefs_of g) from_one → input_of g <ℤ pos (2 ^ 36) → All (λ X. unsigned_abs X < 2 ^ 60) Xs
     → unsigned_abs (state (coefs_of g) from_one Xs).s2 ≤ 2 ^ 68
-second_reached g true [] may input small = omega arith
-second_reached g false [] may input small = omega arith
-second_reached g from_one (X ∷ Xs) may input small =
-    let k : Coefs = coefs_of g in
-    let near = outputs_near_rest g from_one wide (X ∷ Xs) may (omega (arith, ints)) (all_wide from_one (X ∷ Xs) small) in
-    let Y : ℤ = output k (state k from_one Xs) X in
-    let out = (All-head (IsNearRest false (radius_after g wide)) Y (outputs k from_one Xs) near).near in
-    let p : unsigned_abs (product k.b2 X) ≤ 2 * unsigned_abs X + 1 = product_small k.b2 X k.b2_small in
-    let q : unsigned_abs (product k.a2 Y) ≤ 2 * unsigned_abs Y + 1 = product_small k.a2 Y k.a2_small in
-    let x : unsigned_abs X < 2 ^ 60 = All-head IsSmall X Xs small in
-    let y : unsigned_abs Y ≤ 2 ^ 65 = omega (arith, ints, out, radius_wide g input) in
-    omega (arith, ints, p, q, x, y)
+second_reached g from_one Xs may input small = omega (arith, ints, second_within g from_one wide Xs may (omega (arith, ints)) (all_wide from_one Xs small), radius_wide g input)
 
 -- ---- of the state that the code holds
 

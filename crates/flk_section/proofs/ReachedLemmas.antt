@@ -11,7 +11,7 @@ use Rattle.std.proofs.lemmas.List.Elements.{All-nil, All-cons, All-head, All-tai
 use Rattle.flk_cert.specs.declared.gain.Gain.{Gain}
 use Rattle.flk_cert.specs.Gain.{coefs_of, input_of, gain_numbers}
 use Rattle.flk_front.specs.declared.point.Point.{Point}
-use Rattle.flk_section.specs.declared.section.Section.{Section}
+use Rattle.flk_section.specs.declared.row_section.RowSection.{RowSection}
 use Rattle.flk_section.specs.RoundedCascade.{last_output}
 use Rattle.flk_section.specs.Points.{greatest_point, IsPointInRange, mids, greatest_radius}
 use Rattle.flk_section.specs.declared.whole.Whole.{Whole}
@@ -20,7 +20,7 @@ use Rattle.flk_section.specs.Chain.{first_input_in, first_rounding_in}
 use Rattle.flk_section.specs.Filter.{last_radius}
 use Rattle.flk_section.specs.Whole.{numbers_of}
 use Rattle.flk_section.specs.Kept.{IsNearRest}
-use Rattle.flk_section.specs.Section.{gain_of}
+use Rattle.flk_section.specs.RowSection.{gain_of}
 use Rattle.flk_section.specs.Row.{StandInRow, AreReady, AreReached}
 use Rattle.flk_section.specs.declared.cascade.Cascade.{Cascade}
 use Rattle.flk_section.specs.Answer.{CascadeStands, IsAnswer}
@@ -35,7 +35,7 @@ all_mids_near [] h = All-nil (IsNearRest true (pos greatest_point))
 all_mids_near (p ∷ ps) h =
     All-cons (IsNearRest true (pos greatest_point)) p.mid (mids ps) (mid_near p (All-head IsPointInRange p ps h)) (all_mids_near ps (All-tail IsPointInRange p ps h))
 
-pub reached_ready : (gains : List Gain) (ss : List Section) (p : Point) → IsPointInRange p → ∥ AreReached gains ss ∥₁ → ∥ AreReady ss p.mid ∥₁
+pub reached_ready : (gains : List Gain) (ss : List RowSection) (p : Point) → IsPointInRange p → ∥ AreReached gains ss ∥₁ → ∥ AreReady ss p.mid ∥₁
 reached_ready gains ss p range reached =
     ∥∥₁_map reached
     (λ (a : AreReached gains ss).
@@ -45,14 +45,14 @@ reached_ready gains ss p range reached =
       r = pos greatest_point;
       inputs = mids a.points;
       natural = omega (arith, ints);
+      small = omega (arith, ints);
       near = all_mids_near (p ∷ a.points) (All-cons IsPointInRange p a.points range a.ranges);
       stand = a.stand;
-      gains = fits.inputs;
       radii = fits.radii;
     } in
     ready)
 
-pub reached_more : (gains : List Gain) (ss ts : List Section) (p : Point) → IsPointInRange p → map gain_of ts ≡ map gain_of ss
+pub reached_more : (gains : List Gain) (ss ts : List RowSection) (p : Point) → IsPointInRange p → map gain_of ts ≡ map gain_of ss
     → ((from_one : Bool) (Xs : List ℤ) → StandInRow from_one ss Xs → StandInRow from_one ts (p.mid ∷ Xs)) → ∥ AreReached gains ss ∥₁ → ∥ AreReached gains ts ∥₁
 reached_more gains ss ts p range same stand reached =
     ∥∥₁_map reached
@@ -86,7 +86,7 @@ start_of (g ∷ gs) fits = record {
 pub whole_start : (w : Whole) → FirstStartsAtRest w.gains
 whole_start w = start_of w.gains w.fits
 
-pub reached_first : (w : Whole) (ss : List Section) → map gain_of ss ≡ w.gains → StandInRow true ss [] → ∥ AreReached w.gains ss ∥₁
+pub reached_first : (w : Whole) (ss : List RowSection) → map gain_of ss ≡ w.gains → StandInRow true ss [] → ∥ AreReached w.gains ss ∥₁
 reached_first w ss same stand =
     ∥∥₁_map w.fits
     (λ (fits : FitsCascade w.gains).
@@ -109,9 +109,9 @@ pub answer_of : (old k : Cascade) (ps : List Point) (p : Point) (Y : ℤ) → Ca
     → ((from_one : Bool) (Xs : List ℤ) → StandInRow from_one k.sections Xs → Y ≡ last_output (map coefs_of (map gain_of k.sections)) from_one Xs p.mid)
     → IsAnswer (numbers_of old.whole) ps p (record { mid = Y; radius = k.radius })
 answer_of old k ps p Y stands same_whole same greatest output =
-    let stand : StandInRow true k.sections (mids ps) = subst (λ (ss : List Section). StandInRow true ss (mids ps)) (sym same) stands.sections in
+    let stand : StandInRow true k.sections (mids ps) = subst (λ (ss : List RowSection). StandInRow true ss (mids ps)) (sym same) stands.sections in
     let newest : Y ≡ last_output (map coefs_of (map gain_of old.sections)) true (mids ps) p.mid =
-    subst (λ (ss : List Section). Y ≡ last_output (map coefs_of (map gain_of ss)) true (mids ps) p.mid) same (output true (mids ps) stand) in
+    subst (λ (ss : List RowSection). Y ≡ last_output (map coefs_of (map gain_of ss)) true (mids ps) p.mid) same (output true (mids ps) stand) in
     let by_gains : Y ≡ last_output (map coefs_of old.whole.gains) true (mids ps) p.mid =
     ∥∥₁_elim old.reached (ℤ_set _ _)
     (λ (a : AreReached old.whole.gains old.sections). subst (λ (gs : List Gain). Y ≡ last_output (map coefs_of gs) true (mids ps) p.mid) a.gains_are newest) in

@@ -4,8 +4,6 @@ use Rattle.std.proofs.Math.IntN.{ℤ, pos}
 use Rattle.std.proofs.Math.Logic.{∥∥₁_elim, ∥∥₁_map}
 use Rattle.std.specs.Prelude.{◌<ℤ◌}
 use Rattle.std.specs.Coded.{le_prop}
-use Rattle.std.specs.Int.Signed.{lt_z}
-use Rattle.std.proofs.Math.Dec.{T_prop}
 use Rattle.std.specs.Int.RustNames.{unsigned_abs}
 use Rattle.std.specs.List.{All}
 use Rattle.std.proofs.lemmas.Int.{ints}
@@ -13,33 +11,33 @@ use Rattle.std.proofs.lemmas.List.{drop_all}
 use Rattle.std.proofs.lemmas.List.Elements.{All-head, All-tail}
 use Rattle.flk_cert.specs.declared.coefs.Coefs.{Coefs}
 use Rattle.flk_cert.specs.declared.gain.Gain.{Gain}
-use Rattle.flk_cert.specs.Gain.{coefs_of, input_of}
+use Rattle.flk_cert.specs.Gain.{coefs_of}
 use Rattle.flk_cert.specs.RoundedSection.{state, output, outputs}
-use Rattle.flk_cert.specs.Bound.{MayStart}
-use Rattle.flk_section.specs.declared.section.Section.{Section}
+use Rattle.flk_section.specs.declared.row_section.RowSection.{RowSection}
 use Rattle.flk_section.specs.RoundedCascade.{last_output}
 use Rattle.flk_section.specs.Radius.{radius_after, radii}
 use Rattle.flk_section.specs.Kept.{IsNearRest}
-use Rattle.flk_section.specs.Section.{gain_of, coefs_in, starts_from_one, SectionStands}
+use Rattle.flk_section.specs.RowSection.{gain_of, coefs_in, starts_from_one, SectionStands, IsCalm}
 use Rattle.flk_section.specs.Row.{StandInRow, AreReady}
-use Rattle.flk_section.proofs.SectionLemmas.{may_start, outputs_near_rest, radius_natural}
+use Rattle.flk_section.proofs.SectionLemmas.{outputs_near_rest, radius_natural}
+use Rattle.flk_section.proofs.NarrowLemmas.{section_may_start, near_small}
 use Rattle.flk_section.proofs.RadiusLemmas.{left_split}
 
 -- the section s becomes t by the input X, with the output Y
-pub record IsStepped (s t : Section) (X Y : ℤ) : Type 0 where
+pub record IsStepped (s t : RowSection) (X Y : ℤ) : Type 0 where
   pub gain : gain_of t ≡ gain_of s
   pub start : starts_from_one t ≡ starts_from_one s
   pub stands : (Xs : List ℤ) → SectionStands s Xs → SectionStands t (X ∷ Xs)
   pub output : (Xs : List ℤ) → SectionStands s Xs → Y ≡ output (coefs_in s) (state (coefs_in s) (starts_from_one s) Xs) X
 
 -- The input X went through the first i sections after the inputs Xs, and came to Y; the others are as before.
-abbrev pub Midway : ℕ → (from_one : Bool) → List Section → (X : ℤ) → List ℤ → (Y : ℤ) → Type 0
+abbrev pub Midway : ℕ → (from_one : Bool) → List RowSection → (X : ℤ) → List ℤ → (Y : ℤ) → Type 0
 Midway zero from_one ss X Xs Y = (Y ≡ X) × StandInRow from_one ss Xs
 Midway (suc i) from_one [] X Xs Y = ⊥
 Midway (suc i) from_one (s ∷ ss) X Xs Y =
     (starts_from_one s ≡ from_one) × SectionStands s (X ∷ Xs) × Midway i false ss (output (coefs_in s) (state (coefs_in s) from_one Xs) X) (outputs (coefs_in s) from_one Xs) Y
 
-midway_first : (from_one : Bool) (s t : Section) (ss : List Section) (X : ℤ) (Xs : List ℤ) (Y Z : ℤ) → IsStepped s t Y Z → Midway 0 from_one (s ∷ ss) X Xs Y → Midway 1 from_one (t ∷ ss) X Xs Z
+midway_first : (from_one : Bool) (s t : RowSection) (ss : List RowSection) (X : ℤ) (Xs : List ℤ) (Y Z : ℤ) → IsStepped s t Y Z → Midway 0 from_one (s ∷ ss) X Xs Y → Midway 1 from_one (t ∷ ss) X Xs Z
 midway_first from_one s t ss X Xs Y Z step (same, (start, stands, others)) =
     let k : coefs_in t ≡ coefs_in s = ap coefs_of step.gain in
     let here : SectionStands t (X ∷ Xs) = subst (λ (z : ℤ). SectionStands t (z ∷ Xs)) same (step.stands Xs stands) in
@@ -53,17 +51,17 @@ midway_first from_one s t ss X Xs Y Z step (same, (start, stands, others)) =
       ),
     )
 
-pub midway_next : (i : ℕ) (from_one : Bool) (ss : List Section) (d t : Section) (X : ℤ) (Xs : List ℤ) (Y Z : ℤ) → i < length ss → IsStepped (get_or ss i d) t Y Z
+pub midway_next : (i : ℕ) (from_one : Bool) (ss : List RowSection) (d t : RowSection) (X : ℤ) (Xs : List ℤ) (Y Z : ℤ) → i < length ss → IsStepped (get_or ss i d) t Y Z
     → Midway i from_one ss X Xs Y → Midway (suc i) from_one (set ss i t) X Xs Z
 midway_next i from_one [] d t X Xs Y Z within step h = absurd (omega arith)
 midway_next zero from_one (s ∷ ss) d t X Xs Y Z within step h = midway_first from_one s t ss X Xs Y Z step h
 midway_next (suc i) from_one (s ∷ ss) d t X Xs Y Z within step h =
     (h.0, h.1, midway_next i false ss d t (output (coefs_in s) (state (coefs_in s) from_one Xs) X) (outputs (coefs_in s) from_one Xs) Y Z (omega arith) step h.2)
 
-pub midway_start : (from_one : Bool) (ss : List Section) (X : ℤ) (Xs : List ℤ) → StandInRow from_one ss Xs → Midway 0 from_one ss X Xs X
+pub midway_start : (from_one : Bool) (ss : List RowSection) (X : ℤ) (Xs : List ℤ) → StandInRow from_one ss Xs → Midway 0 from_one ss X Xs X
 midway_start from_one ss X Xs h = (refl, h)
 
-pub midway_end : (from_one : Bool) (ss : List Section) (X : ℤ) (Xs : List ℤ) (Y : ℤ) → Midway (length ss) from_one ss X Xs Y
+pub midway_end : (from_one : Bool) (ss : List RowSection) (X : ℤ) (Xs : List ℤ) (Y : ℤ) → Midway (length ss) from_one ss X Xs Y
     → StandInRow from_one ss (X ∷ Xs) × (Y ≡ last_output (map coefs_of (map gain_of ss)) from_one Xs X)
 midway_end from_one [] X Xs Y h = (tt, h.0)
 midway_end from_one (s ∷ ss) X Xs Y h =
@@ -71,21 +69,15 @@ midway_end from_one (s ∷ ss) X Xs Y h =
     ((h.0, h.1, rest.0), rest.1)
 
 -- the gains stay
-pub gains_kept : (i : ℕ) (ss : List Section) (d t : Section) → gain_of t ≡ gain_of (get_or ss i d) → i < length ss → map gain_of (set ss i t) ≡ map gain_of ss
+pub gains_kept : (i : ℕ) (ss : List RowSection) (d t : RowSection) → gain_of t ≡ gain_of (get_or ss i d) → i < length ss → map gain_of (set ss i t) ≡ map gain_of ss
 gains_kept i [] d t e within = absurd (omega arith)
 gains_kept zero (s ∷ ss) d t e within = ap (λ (g : Gain). g ∷ map gain_of ss) e
 gains_kept (suc i) (s ∷ ss) d t e within = ap (λ (gs : List Gain). gain_of s ∷ gs) (gains_kept i ss d t e (omega arith))
 
 -- ---- ranges
 
-section_may_start : (s : Section) (from_one : Bool) → starts_from_one s ≡ from_one → MayStart (coefs_in s) from_one
-section_may_start s from_one e = may_start (coefs_in s) from_one (λ h. s.rests (e ∙ h))
-
-near_small : (r X : ℤ) → IsNearRest false r X → r <ℤ pos (2 ^ 60) → unsigned_abs X < 2 ^ 60
-near_small r X h small = let near = h.near in omega (arith, ints, near)
-
 -- the outputs of the first section are the inputs of the others
-outputs_ready : (s t : Section) (ss : List Section) (X Y : ℤ) → IsStepped s t X Y → (a : AreReady (s ∷ ss) X)
+outputs_ready : (s t : RowSection) (ss : List RowSection) (X Y : ℤ) → IsStepped s t X Y → (a : AreReady (s ∷ ss) X)
     → All (IsNearRest false (radius_after (gain_of s) a.r)) (Y ∷ outputs (coefs_in s) a.from_one a.inputs)
 outputs_ready s t ss X Y step a =
     let k : Coefs = coefs_in s in
@@ -94,29 +86,37 @@ outputs_ready s t ss X Y step a =
     let value : Y ≡ output k (state k a.from_one a.inputs) X = subst (λ (b : Bool). Y ≡ output k (state k b a.inputs) X) a.stand.0 (step.output a.inputs a.stand.1) in
     subst (λ (z : ℤ). All (IsNearRest false r) (z ∷ outputs k a.from_one a.inputs)) (sym value) near
 
-next_ready : (s t : Section) (ss : List Section) (X Y : ℤ) → IsStepped s t X Y → AreReady (s ∷ ss) X → AreReady ss Y
+next_ready : (s t : RowSection) (ss : List RowSection) (X Y : ℤ) → IsStepped s t X Y → AreReady (s ∷ ss) X → AreReady ss Y
 next_ready s t ss X Y step a =
     record {
       from_one = false;
       r = radius_after (gain_of s) a.r;
       inputs = outputs (coefs_in s) a.from_one a.inputs;
       natural = radius_natural (gain_of s) a.r a.natural;
+      small = All-head (λ z. z <ℤ pos (2 ^ 60)) (radius_after (gain_of s) a.r) (radii (map gain_of ss) (radius_after (gain_of s) a.r)) a.radii;
       near = outputs_ready s t ss X Y step a;
       stand = a.stand.2;
-      gains = All-tail (λ g. input_of g <ℤ pos (2 ^ 36)) (gain_of s) (map gain_of ss) a.gains;
       radii = All-tail (λ z. z <ℤ pos (2 ^ 60)) (radius_after (gain_of s) a.r) (radii (map gain_of ss) (radius_after (gain_of s) a.r)) a.radii;
     }
 
 -- ---- of the sections that the code holds
 
-pub ready_input : (s : Section) (ss : List Section) (X : ℤ) → ∥ AreReady (s ∷ ss) X ∥₁ → input_of (gain_of s) <ℤ pos (2 ^ 36)
-ready_input s ss X r = record {
-  lt =
-      ∥∥₁_elim r (T_prop (lt_z (input_of (gain_of s)) (pos (2 ^ 36))))
-      (λ (a : AreReady (s ∷ ss) X). (All-head (λ g. input_of g <ℤ pos (2 ^ 36)) (gain_of s) (map gain_of ss) a.gains).lt);
-}
+pub ready_calm : (s : RowSection) (ss : List RowSection) (X : ℤ) → ∥ AreReady (s ∷ ss) X ∥₁ → ∥ IsCalm s X ∥₁
+ready_calm s ss X r =
+    ∥∥₁_map r
+    (λ (a : AreReady (s ∷ ss) X).
+    let calm : IsCalm s X = record {
+      r = a.r;
+      inputs = a.inputs;
+      natural = a.natural;
+      small = a.small;
+      near = subst (λ (b : Bool). All (IsNearRest b a.r) (X ∷ a.inputs)) (sym a.stand.0) a.near;
+      stands = a.stand.1;
+      radius = All-head (λ z. z <ℤ pos (2 ^ 60)) (radius_after (gain_of s) a.r) (radii (map gain_of ss) (radius_after (gain_of s) a.r)) a.radii;
+    } in
+    calm)
 
-pub ready_small : (s t : Section) (ss : List Section) (X Y : ℤ) → IsStepped s t X Y → ∥ AreReady (s ∷ ss) X ∥₁ → unsigned_abs Y < 2 ^ 60
+pub ready_small : (s t : RowSection) (ss : List RowSection) (X Y : ℤ) → IsStepped s t X Y → ∥ AreReady (s ∷ ss) X ∥₁ → unsigned_abs Y < 2 ^ 60
 ready_small s t ss X Y step r =
     ∥∥₁_elim r le_prop
     (λ (a : AreReady (s ∷ ss) X).
@@ -124,7 +124,7 @@ ready_small s t ss X Y step r =
     near_small r Y (All-head (IsNearRest false r) Y (outputs (coefs_in s) a.from_one a.inputs) (outputs_ready s t ss X Y step a))
     (All-head (λ z. z <ℤ pos (2 ^ 60)) r (radii (map gain_of ss) r) a.radii))
 
-pub ready_next : (s t : Section) (ss : List Section) (X Y : ℤ) → IsStepped s t X Y → ∥ AreReady (s ∷ ss) X ∥₁ → ∥ AreReady ss Y ∥₁
+pub ready_next : (s t : RowSection) (ss : List RowSection) (X Y : ℤ) → IsStepped s t X Y → ∥ AreReady (s ∷ ss) X ∥₁ → ∥ AreReady ss Y ∥₁
 ready_next s t ss X Y step r = ∥∥₁_map r (λ (a : AreReady (s ∷ ss) X). next_ready s t ss X Y step a)
 
 -- ---- the sections of the gains

@@ -12,6 +12,9 @@ pub mod Section
 pub mod Answer
 -- ---- what private ones cite besides
 pub mod Kept
+pub mod Narrow
+pub mod Fine
+pub mod RowSection
 pub mod Row
 pub mod Followed
 pub mod Owned

@@ -2,37 +2,36 @@
 use Rattle.std.specs.Prelude.{◌≡◌, ◌^◌, Bool, true, false, List, [], ◌∷◌, map, ℤ, pos, ◌≤ℤ◌, ◌<ℤ◌}
 use Rattle.std.specs.List.{All}
 use Rattle.flk_cert.specs.declared.gain.Gain.{Gain}
-use Rattle.flk_cert.specs.Gain.{input_of}
 use Rattle.flk_cert.specs.RoundedSection.{outputs}
 use Rattle.flk_front.specs.declared.point.Point.{Point}
-use Rattle.flk_section.specs.declared.section.Section.{Section}
+use Rattle.flk_section.specs.declared.row_section.RowSection.{RowSection}
 use Rattle.flk_section.specs.Kept.{IsNearRest}
-use Rattle.flk_section.specs.Section.{gain_of, coefs_in, starts_from_one, SectionStands}
+use Rattle.flk_section.specs.RowSection.{gain_of, coefs_in, starts_from_one, SectionStands}
 use Rattle.flk_section.specs.Points.{mids, IsPointInRange}
 use Rattle.flk_section.specs.Radius.{radii, FitsCascade}
 
 -- The sections stand in a row for these inputs of the first, newest first: each for the outputs of the one before it.
-abbrev pub StandInRow : (from_one : Bool) → List Section → List ℤ → Type 0
+abbrev pub StandInRow : (from_one : Bool) → List RowSection → List ℤ → Type 0
 StandInRow from_one [] Xs = Unit {0}
 StandInRow from_one (s ∷ ss) Xs = (starts_from_one s ≡ from_one) × SectionStands s Xs
     × StandInRow false ss (outputs (coefs_in s) from_one Xs)
 
 -- ---- what the code keeps
 
--- The sections stand in a row for inputs that lie, with the next one, X, within r of the first section's rest; and the
--- radii from r on are below 2^60.
-pub record AreReady (ss : List Section) (X : ℤ) : Type 0 where
+-- The sections stand in a row for inputs that lie, with the next one, X, within r of the first section's rest; and r
+-- and the radii from it on are below 2^60.
+pub record AreReady (ss : List RowSection) (X : ℤ) : Type 0 where
   pub from_one : Bool
   pub r : ℤ
   pub inputs : List ℤ
   pub natural : pos 0 ≤ℤ r
+  pub small : r <ℤ pos (2 ^ 60)
   pub near : All (IsNearRest from_one r) (X ∷ inputs)
   pub stand : StandInRow from_one ss inputs
-  pub gains : All (λ g. input_of g <ℤ pos (2 ^ 36)) (map gain_of ss)
   pub radii : All (λ z. z <ℤ pos (2 ^ 60)) (radii (map gain_of ss) r)
 
 -- The sections have these gains, which fit, and stand in a row for the middles of points in the adaptor's range.
-pub record AreReached (gains : List Gain) (ss : List Section) : Type 0 where
+pub record AreReached (gains : List Gain) (ss : List RowSection) : Type 0 where
   pub gains_are : map gain_of ss ≡ gains
   pub points : List Point
   pub ranges : All IsPointInRange points

@@ -16,9 +16,10 @@ ghost use Rattle.flk_section.specs.Points.{IsPointInRange, greatest_point};
 ghost use Rattle.flk_section.specs.Radius.{FirstStartsAtRest};
 ghost use Rattle.flk_section.specs.Filter.{last_radius};
 ghost use Rattle.flk_section.specs.Whole.{gains_of, numbers_of};
-ghost use Rattle.flk_section.specs.Section.{gain_of};
+ghost use Rattle.flk_section.specs.RowSection.{gain_of};
 ghost use Rattle.flk_section.specs.Row.{StandInRow, AreReady, AreReached};
 
+use crate::row_section::RowSection;
 use crate::section::Section;
 use crate::whole::Whole;
 use flk_cert::Gain;
@@ -26,24 +27,24 @@ use flk_front::Point;
 use flk_num::crosses_threads;
 
 // The sections before their first sample: the first starts from one.
-fn sections_of(gains: [Gain; 7]) -> [Section; 7]
+fn sections_of(gains: [Gain; 7]) -> [RowSection; 7]
     requires { FirstStartsAtRest gains }
     ensures gains { map gain_of result ≡ gains }
     ensures stand { StandInRow true result [] }
 {
     [
-        Section::new(gains[0], true),
-        Section::new(gains[1], false),
-        Section::new(gains[2], false),
-        Section::new(gains[3], false),
-        Section::new(gains[4], false),
-        Section::new(gains[5], false),
-        Section::new(gains[6], false),
+        RowSection::new(gains[0], true),
+        RowSection::new(gains[1], false),
+        RowSection::new(gains[2], false),
+        RowSection::new(gains[3], false),
+        RowSection::new(gains[4], false),
+        RowSection::new(gains[5], false),
+        RowSection::new(gains[6], false),
     ]
 }
 
 // Takes the next input through the sections, and answers the last output.
-fn step_in_row(sections: &mut [Section], mid: i128) -> i128
+fn step_in_row(sections: &mut [RowSection], mid: i64) -> i64
     requires mid { unsigned_abs mid < 2 ^ 60 }
     requires ready { ∥ AreReady sections.old mid ∥₁ }
     ensures gains { map gain_of sections.new ≡ map gain_of sections.old }
@@ -65,7 +66,7 @@ fn step_in_row(sections: &mut [Section], mid: i128) -> i128
 #[derive(Clone, Copy)]
 pub struct Cascade {
     whole: Whole,
-    sections: [Section; 7],
+    sections: [RowSection; 7],
     // The greatest radius of the points so far, and the radius behind the last section that follows from it.
     greatest: i128,
     radius: i128,
@@ -136,7 +137,7 @@ impl Cascade {
     {
         self.take_radius(p.radius);
         Point {
-            mid: step_in_row(&mut self.sections, p.mid),
+            mid: i128::from(step_in_row(&mut self.sections, p.mid as i64)),
             radius: self.radius,
         }
     }

@@ -1,25 +1,32 @@
 //! The weighting filter of the flickermeter of IEC 61000-4-15, its block 3: seven filter sections in a row, run in
 //! whole numbers.
 //!
-//! [`Section`] is one section with rounded products. [`Cascade`] takes points, which are whole numbers with a radius,
-//! through seven sections and answers points: what stands in an answer is fixed to the last digit, and it holds the
-//! exact signal of every list of inputs that lie in the points taken, after any number of samples. [`fits`] says for
-//! which gains the sections' numbers stay small, and [`whole_of`] makes the bound of a whole cascade, [`Whole`], from
-//! which one can be made. No call takes memory.
+//! [`Section`] is one section with rounded products, for any inputs below 2^60. [`Cascade`] takes points, which are
+//! whole numbers with a radius, through seven sections and answers points: what stands in an answer is fixed to the last
+//! digit, and it holds the exact signal of every list of inputs that lie in the points taken, after any number of
+//! samples. [`fits`] says for which gains the sections' numbers stay small, and [`whole_of`] makes the bound of a whole
+//! cascade, [`Whole`], from which one can be made. No call takes memory.
+//!
+//! The numbers of a cascade's sections fit 64 bits, so it runs on sections of its own, `RowSection`, which take the same
+//! step.
 //!
 //! What the exact and the rounded sections are stands in flk_cert. Here `specs/` puts them in a row: `Cascade` exactly,
 //! `RoundedCascade` as the program runs them, `Radius` with the radii by the sections' own gains, `Filter` with the
-//! numbers on which all digits depend, and `Section` and `Answer` with what the states stand for. `Chain` has the bound
-//! of the sections behind the first, what it promises and the rule by which it is made; the rule's parts stand in
-//! `OwnBounds` and `Forms`. docs/CERTIFICATES.md says why it holds, and `proofs/ChainLemmas` proves it.
+//! numbers on which all digits depend, and `Section` and `Answer` with what the states stand for. `Narrow` has the step
+//! on 64 bits. `Chain` has the bound of the sections behind the first, what it promises and the rule by which it is
+//! made; the rule's parts stand in `OwnBounds` and `Forms`. docs/CERTIFICATES.md says why it holds, and
+//! `proofs/ChainLemmas` proves it.
 #![tactic(auto)]
 
 mod cascade;
 mod chain;
+mod fine;
 mod form;
 mod laws;
+mod narrow;
 mod own;
 mod radius;
+mod row_section;
 mod section;
 mod state;
 mod whole;

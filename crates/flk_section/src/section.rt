@@ -14,12 +14,12 @@ use flk_cert::Gain;
 
 // The first state before the first sample. A section from one begins as if its input had always been 1, which is 2^48
 // units, with the output 0.
-fn first_state(b0: i64, from_one: bool) -> i128
+pub(crate) fn first_state(b0: i64, from_one: bool) -> i64
     requires { unsigned_abs b0 ≤ 2 ^ 33 }
     ensures { result ≡ (if from_one then neg_ℤ (pos 65536 *ℤ b0) else pos 0) }
 {
     if from_one {
-        -(65536 * i128::from(b0))
+        -(65536 * b0)
     } else {
         0
     }
@@ -51,7 +51,7 @@ impl Section {
             gain,
             from_one,
             state: State {
-                s1: first_state(gain.coefs().b0, from_one),
+                s1: i128::from(first_state(gain.coefs().b0, from_one)),
                 s2: 0,
             },
         }

@@ -1,5 +1,5 @@
 use Rattle.std.proofs.Common.{rules, ◌≡◌, length, sym, ◌∙◌}
-use Rattle.flk_section.specs.Section.{gain_of}
+use Rattle.flk_section.specs.RowSection.{gain_of}
 use Rattle.flk_section.proofs.RowLemmas.{seven}
 use Rattle.flk_section.proofs.cascade.sections_of.Goals as goal
 

@@ -1,6 +1,6 @@
 use Rattle.std.proofs.Common.{◌≡◌, ◌^◌, ◌<◌, Bool, List, map, drop, ℤ}
 use Rattle.std.specs.Int.RustNames.{unsigned_abs}
-use Rattle.flk_section.specs.Section.{gain_of}
+use Rattle.flk_section.specs.RowSection.{gain_of}
 use Rattle.flk_section.specs.Row.{StandInRow, AreReady}
 use Rattle.flk_section.proofs.RowLemmas.{Midway}
 use Rattle.flk_section.proofs.cascade.step_in_row.Given as goal

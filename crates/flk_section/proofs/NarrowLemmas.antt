@@ -1,0 +1,145 @@
+-- A section's step on 64 bits: its products are those of the section, and its numbers stay small where the section's inputs lie near its rest.
+use Rattle.std.proofs.Common.{◌≡◌, ◌+◌, ◌*◌, ◌^◌, ◌<◌, ◌≤◌, Bool, false, List, ◌∷◌, refl, sym, ap, subst, ◌∙◌, arith}
+use Rattle.std.proofs.Math.IntN.{ℤ, pos, ◌+ℤ◌, ◌-ℤ◌, ◌*ℤ◌}
+use Rattle.std.proofs.Math.Logic.{∥∥₁_elim}
+use Rattle.std.specs.Coded.{le_prop}
+use Rattle.std.specs.Prelude.{negsuc, ◌<ℤ◌}
+use Rattle.std.specs.Int.RustNames.{unsigned_abs}
+use Rattle.std.specs.Int.Signed.{shr_z}
+use Rattle.std.specs.List.{All}
+use Rattle.std.proofs.Math.Nat.{mul-le-mul_right}
+use Rattle.std.proofs.lemmas.Int.{ints, unsigned_abs-mul}
+use Rattle.std.proofs.lemmas.List.Elements.{All-head, All-tail}
+use Rattle.flk_exact.specs.Rounding.{floor_of, IsFloor}
+use Rattle.flk_exact.proofs.RoundingLemmas.{IsFloor-floor_of, floor_of-at}
+use Rattle.flk_exact.proofs.ProductLemmas.{mul_assoc, left_comm}
+use Rattle.flk_cert.specs.declared.coefs.Coefs.{Coefs}
+use Rattle.flk_cert.specs.RoundedSection.{product, State, state, output, outputs, after}
+use Rattle.flk_cert.specs.Bound.{MayStart}
+use Rattle.flk_section.specs.declared.fine.FineCoefs.{FineCoefs}
+use Rattle.flk_section.specs.declared.row_section.RowSection.{RowSection}
+use Rattle.flk_section.specs.Narrow.{fine_product, fine_of, as_state}
+use Rattle.flk_section.specs.Fine.{IsFine}
+use Rattle.flk_section.specs.Kept.{IsNearRest}
+use Rattle.flk_section.specs.Radius.{radius_after}
+use Rattle.flk_section.specs.RowSection.{gain_of, coefs_in, starts_from_one, IsCalm}
+use Rattle.flk_section.proofs.SectionLemmas.{may_start, outputs_near_rest}
+use Rattle.flk_section.proofs.RangeLemmas.{product_small, first_within, second_within}
+
+-- ---- products
+
+-- a quotient rounded down stays where both of its parts are multiplied
+finer : (w p q : ℤ) → w ≡ pos (2 ^ 29) *ℤ p → IsFloor p (pos (2 ^ 32)) q → IsFloor w (pos (2 ^ 61)) q
+finer w p q e f =
+    let within = f.within in
+    let greatest = f.greatest in
+    record { within = omega (arith, ints, e, within); greatest = omega (arith, ints, e, greatest) }
+
+coarser : (w p q : ℤ) → w ≡ pos 8 *ℤ p → IsFloor w (pos (2 ^ 64)) q → IsFloor p (pos (2 ^ 61)) q
+coarser w p q e f =
+    let within = f.within in
+    let greatest = f.greatest in
+    record { within = omega (arith, ints, e, within); greatest = omega (arith, ints, e, greatest) }
+
+pub fine_product_is : (k v : ℤ) → fine_product (fine_of k) v ≡ product k v
+fine_product_is k v =
+    let f = finer (fine_of k *ℤ v) (k *ℤ v) (product k v) (mul_assoc (pos (2 ^ 29)) k v) (IsFloor-floor_of (k *ℤ v) (2 ^ 32) (omega arith)) in
+    sym (floor_of-at (fine_of k *ℤ v) (pos (2 ^ 61)) (product k v) (omega (arith, ints)) f)
+
+-- the upper half of 128 bits
+half_is : (z : ℤ) → shr_z z (2 ^ 64) ≡ floor_of z (pos (2 ^ 64))
+half_is (pos n) = refl
+half_is (negsuc n) = refl
+
+pub upper_half : (k v : ℤ) → shr_z (k *ℤ (pos 8 *ℤ v)) (2 ^ 64) ≡ fine_product k v
+upper_half k v =
+    let w : ℤ = k *ℤ (pos 8 *ℤ v) in
+    let f = coarser w (k *ℤ v) (floor_of w (pos (2 ^ 64))) (left_comm k (pos 8) v) (IsFloor-floor_of w (2 ^ 64) (omega arith)) in
+    half_is w ∙ floor_of-at (k *ℤ v) (pos (2 ^ 61)) (floor_of w (pos (2 ^ 64))) (omega (arith, ints)) f
+
+pub fine_product_small : (k v : ℤ) → unsigned_abs k ≤ 2 ^ 62 → unsigned_abs (fine_product k v) ≤ 2 * unsigned_abs v + 1
+fine_product_small k v h =
+    let f = IsFloor-floor_of (k *ℤ v) (2 ^ 61) (omega arith) in
+    let within = f.within in
+    let greatest = f.greatest in
+    let size : unsigned_abs (k *ℤ v) ≡ unsigned_abs k * unsigned_abs v = unsigned_abs-mul k v in
+    let most : unsigned_abs k * unsigned_abs v ≤ 2 ^ 62 * unsigned_abs v = mul-le-mul_right (unsigned_abs v) h in
+    omega (arith, ints, within, greatest, size, most)
+
+-- ---- a step
+
+pub fine_output : (k : Coefs) (f : FineCoefs) (s : State) (X Y : ℤ) → IsFine k f → Y ≡ fine_product f.b0 X +ℤ s.s1 → Y ≡ output k s X
+fine_output k f s X Y fine e =
+    let b0 : fine_product f.b0 X ≡ product k.b0 X = ap (λ (z : ℤ). fine_product z X) fine.b0 ∙ fine_product_is k.b0 X in
+    e ∙ ap (λ (z : ℤ). z +ℤ s.s1) b0
+
+pub fine_first : (k : Coefs) (f : FineCoefs) (s : State) (X Y : ℤ) → IsFine k f → Y ≡ output k s X → fine_product f.b1 X +ℤ s.s2 -ℤ fine_product f.a1 Y ≡ (after k s X).s1
+fine_first k f s X Y fine e =
+    let b1 : fine_product f.b1 X ≡ product k.b1 X = ap (λ (z : ℤ). fine_product z X) fine.b1 ∙ fine_product_is k.b1 X in
+    let a1 : fine_product f.a1 Y ≡ product k.a1 (output k s X) = ap (λ (z : ℤ). fine_product z Y) fine.a1 ∙ fine_product_is k.a1 Y ∙ ap (λ (z : ℤ). product k.a1 z) e in
+    omega (arith, ints, b1, a1)
+
+pub fine_second : (k : Coefs) (f : FineCoefs) (s : State) (X Y : ℤ) → IsFine k f → Y ≡ output k s X → fine_product f.b2 X -ℤ fine_product f.a2 Y ≡ (after k s X).s2
+fine_second k f s X Y fine e =
+    let b2 : fine_product f.b2 X ≡ product k.b2 X = ap (λ (z : ℤ). fine_product z X) fine.b2 ∙ fine_product_is k.b2 X in
+    let a2 : fine_product f.a2 Y ≡ product k.a2 (output k s X) = ap (λ (z : ℤ). fine_product z Y) fine.a2 ∙ fine_product_is k.a2 Y ∙ ap (λ (z : ℤ). product k.a2 z) e in
+    omega (arith, ints, b2, a2)
+
+-- the state that the code makes
+pub narrow_after : (k : Coefs) (f : FineCoefs) (s : State) (X Y p q : ℤ) → IsFine k f → Y ≡ output k s X → p ≡ fine_product f.b1 X +ℤ s.s2 -ℤ fine_product f.a1 Y
+    → q ≡ fine_product f.b2 X -ℤ fine_product f.a2 Y → record { s1 = p; s2 = q } ≡ after k s X
+narrow_after k f s X Y p q fine e first second =
+    let x : p ≡ (after k s X).s1 = first ∙ fine_first k f s X Y fine e in
+    let y : q ≡ (after k s X).s2 = second ∙ fine_second k f s X Y fine e in
+    let made : ℤ → ℤ → State = λ a b. record { s1 = a; s2 = b } in
+    ap (λ (z : ℤ). made z q) x ∙ ap (λ (z : ℤ). made (after k s X).s1 z) y
+
+-- ---- how large the numbers get
+
+pub section_may_start : (s : RowSection) (from_one : Bool) → starts_from_one s ≡ from_one → MayStart (coefs_in s) from_one
+section_may_start s from_one e = may_start (coefs_in s) from_one (λ h. s.rests (e ∙ h))
+
+calm_may : (s : RowSection) → MayStart (coefs_in s) (starts_from_one s)
+calm_may s = section_may_start s (starts_from_one s) refl
+
+pub near_small : (r X : ℤ) → IsNearRest false r X → r <ℤ pos (2 ^ 60) → unsigned_abs X < 2 ^ 60
+near_small r X h small = let near = h.near in omega (arith, ints, near, small)
+
+-- the first state, before a sample and after it
+pub calm_first : (s : RowSection) (X : ℤ) → ∥ IsCalm s X ∥₁ → unsigned_abs (as_state s.state).s1 ≤ 2 ^ 61
+calm_first s X h =
+    ∥∥₁_elim h le_prop
+    (λ (c : IsCalm s X).
+    let near = All-tail (IsNearRest (starts_from_one s) c.r) X c.inputs c.near in
+    let within = first_within (gain_of s) (starts_from_one s) c.r c.inputs (calm_may s) c.natural near in
+    let small = c.radius in
+    subst (λ (z : State). unsigned_abs z.s1 ≤ 2 ^ 61) (sym c.stands) (omega (arith, ints, within, small)))
+
+pub calm_second : (s : RowSection) (X : ℤ) → ∥ IsCalm s X ∥₁ → unsigned_abs (as_state s.state).s2 ≤ 2 ^ 62 + 2 ^ 50
+calm_second s X h =
+    ∥∥₁_elim h le_prop
+    (λ (c : IsCalm s X).
+    let near = All-tail (IsNearRest (starts_from_one s) c.r) X c.inputs c.near in
+    let within = second_within (gain_of s) (starts_from_one s) c.r c.inputs (calm_may s) c.natural near in
+    let small = c.radius in
+    let less = c.small in
+    subst (λ (z : State). unsigned_abs z.s2 ≤ 2 ^ 62 + 2 ^ 50) (sym c.stands) (omega (arith, ints, within, small, less)))
+
+pub calm_output : (s : RowSection) (X : ℤ) → ∥ IsCalm s X ∥₁ → unsigned_abs (output (coefs_in s) (as_state s.state) X) < 2 ^ 60
+calm_output s X h =
+    ∥∥₁_elim h le_prop
+    (λ (c : IsCalm s X).
+    let k : Coefs = coefs_in s in
+    let r : ℤ = radius_after (gain_of s) c.r in
+    let Y : ℤ = output k (state k (starts_from_one s) c.inputs) X in
+    let near = outputs_near_rest (gain_of s) (starts_from_one s) c.r (X ∷ c.inputs) (calm_may s) c.natural c.near in
+    let small : unsigned_abs Y < 2 ^ 60 = near_small r Y (All-head (IsNearRest false r) Y (outputs k (starts_from_one s) c.inputs) near) c.radius in
+    subst (λ (z : State). unsigned_abs (output k z X) < 2 ^ 60) (sym c.stands) small)
+
+pub calm_after : (s : RowSection) (X : ℤ) → ∥ IsCalm s X ∥₁ → unsigned_abs (after (coefs_in s) (as_state s.state) X).s1 ≤ 2 ^ 61
+calm_after s X h =
+    ∥∥₁_elim h le_prop
+    (λ (c : IsCalm s X).
+    let within = first_within (gain_of s) (starts_from_one s) c.r (X ∷ c.inputs) (calm_may s) c.natural c.near in
+    let small = c.radius in
+    subst (λ (z : State). unsigned_abs (after (coefs_in s) z X).s1 ≤ 2 ^ 61) (sym c.stands) (omega (arith, ints, within, small)))
