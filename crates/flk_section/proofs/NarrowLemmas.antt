@@ -1,12 +1,12 @@
--- A section's step on 64 bits: its products are those of the section, and its numbers stay small where the section's inputs lie near its rest.
-use Rattle.std.proofs.Common.{◌≡◌, ◌+◌, ◌*◌, ◌^◌, ◌<◌, ◌≤◌, Bool, false, List, ◌∷◌, refl, sym, ap, subst, ◌∙◌, arith}
+-- A section's step on 64 bits: its products are those of the section, and its numbers stay small where the section's
+-- inputs lie near its rest.
+use Rattle.std.proofs.Common.{◌≡◌, ◌+◌, ◌*◌, ◌^◌, ◌<◌, ◌≤◌, Bool, false, ◌∷◌, refl, sym, ap, subst, ◌∙◌, arith}
 use Rattle.std.proofs.Math.IntN.{ℤ, pos, ◌+ℤ◌, ◌-ℤ◌, ◌*ℤ◌}
 use Rattle.std.proofs.Math.Logic.{∥∥₁_elim}
 use Rattle.std.specs.Coded.{le_prop}
 use Rattle.std.specs.Prelude.{negsuc, ◌<ℤ◌}
 use Rattle.std.specs.Int.RustNames.{unsigned_abs}
 use Rattle.std.specs.Int.Signed.{shr_z}
-use Rattle.std.specs.List.{All}
 use Rattle.std.proofs.Math.Nat.{mul-le-mul_right}
 use Rattle.std.proofs.lemmas.Int.{ints, unsigned_abs-mul}
 use Rattle.std.proofs.lemmas.List.Elements.{All-head, All-tail}
@@ -24,7 +24,7 @@ use Rattle.flk_section.specs.Kept.{IsNearRest}
 use Rattle.flk_section.specs.Radius.{radius_after}
 use Rattle.flk_section.specs.RowSection.{gain_of, coefs_in, starts_from_one, IsCalm}
 use Rattle.flk_section.proofs.SectionLemmas.{may_start, outputs_near_rest}
-use Rattle.flk_section.proofs.RangeLemmas.{product_small, first_within, second_within}
+use Rattle.flk_section.proofs.RangeLemmas.{first_within, second_within}
 
 -- ---- products
 

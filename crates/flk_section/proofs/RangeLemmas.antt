@@ -1,5 +1,6 @@
--- How large the states of a section get, from what its gain promises: the exact run at rest is known, and each state is seen in an output.
-use Rattle.std.proofs.Common.{◌≡◌, ◌+◌, ◌*◌, ◌^◌, ◌<◌, ◌≤◌, Bool, true, false, List, [], ◌∷◌, refl, sym, ap, subst, arith}
+-- How large the states of a section get, from what its gain promises: the exact run at rest is known, and each state is
+-- seen in an output.
+use Rattle.std.proofs.Common.{◌≡◌, ℕ, ◌+◌, ◌*◌, ◌^◌, ◌<◌, ◌≤◌, Bool, true, false, List, [], ◌∷◌, refl, sym, ap, subst, arith}
 use Rattle.std.proofs.Math.IntN.{ℤ, pos, neg_ℤ, ◌+ℤ◌, ◌-ℤ◌, ◌*ℤ◌}
 use Rattle.std.proofs.Math.Logic.{∥∥₁_elim, ∥∥₁_map}
 use Rattle.std.proofs.Math.Nat.{mul-le-mul_right}
@@ -81,6 +82,22 @@ first_within g from_one r Xs may natural near =
     let p = product_small k.b0 (rest from_one) k.b0_small in
     omega (arith, ints, out, p, rest_small from_one)
 
+-- a difference of two products, from what their factors lie within
+products_within : (X Y p q e : ℤ) (r t : ℕ) → pos (unsigned_abs (X -ℤ e)) ≤ℤ pos r → pos (unsigned_abs (Y -ℤ pos 0)) ≤ℤ pos t → unsigned_abs e ≤ 2 ^ 48
+    → unsigned_abs p ≤ 2 * unsigned_abs X + 1 → unsigned_abs q ≤ 2 * unsigned_abs Y + 1 → unsigned_abs (p -ℤ q) ≤ r + r + t + t + (2 ^ 49 + 2)
+products_within X Y p q e r t x y small hp hq =
+    let from : unsigned_abs X ≤ r + 2 ^ 48 = omega (arith, ints, x, small) in
+    let to : unsigned_abs Y ≤ t = omega (arith, ints, y) in
+    omega (arith, ints, from, to, hp, hq)
+
+differ_within : (X Y p q e r t : ℤ) → pos (unsigned_abs (X -ℤ e)) ≤ℤ r → pos (unsigned_abs (Y -ℤ pos 0)) ≤ℤ t → unsigned_abs e ≤ 2 ^ 48
+    → unsigned_abs p ≤ 2 * unsigned_abs X + 1 → unsigned_abs q ≤ 2 * unsigned_abs Y + 1 → pos (unsigned_abs (p -ℤ q)) ≤ℤ (r +ℤ r +ℤ t +ℤ t +ℤ pos (2 ^ 49 + 2))
+differ_within X Y p q e (negsuc r) t x y small hp hq = absurd (omega (arith, ints, x))
+differ_within X Y p q e (pos r) (negsuc t) x y small hp hq = absurd (omega (arith, ints, y))
+differ_within X Y p q e (pos r) (pos t) x y small hp hq =
+    let most = products_within X Y p q e r t x y small hp hq in
+    omega (arith, ints, most)
+
 -- the second one is a sum of two products
 pub second_within : (g : Gain) (from_one : Bool) (r : ℤ) (Xs : List ℤ) → MayStart (coefs_of g) from_one → pos 0 ≤ℤ r → All (IsNearRest from_one r) Xs
     → pos (unsigned_abs (state (coefs_of g) from_one Xs).s2) ≤ℤ (r +ℤ r +ℤ radius_after g r +ℤ radius_after g r +ℤ pos (2 ^ 49 + 2))
@@ -94,7 +111,7 @@ second_within g from_one r (X ∷ Xs) may natural near =
     let p : unsigned_abs (product k.b2 X) ≤ 2 * unsigned_abs X + 1 = product_small k.b2 X k.b2_small in
     let q : unsigned_abs (product k.a2 Y) ≤ 2 * unsigned_abs Y + 1 = product_small k.a2 Y k.a2_small in
     let x = (All-head (IsNearRest from_one r) X Xs near).near in
-    omega (arith, ints, p, q, x, out, rest_small from_one)
+    differ_within X Y (product k.b2 X) (product k.a2 Y) (rest from_one) r (radius_after g r) x out (rest_small from_one) p q
 
 -- ---- after inputs below 2^60
 

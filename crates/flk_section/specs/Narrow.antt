@@ -1,5 +1,5 @@
--- A section's step on 64 bits. A coefficient is kept over 2^61, so that its product with a value, rounded down, is the upper half of one number
--- of 128 bits: 2^64 is 2^61 times 8. The form is the project's own.
+-- A section's step on 64 bits. A coefficient is kept over 2^61, so that its product with a value, rounded down, is the
+-- upper half of one number of 128 bits: 2^64 is 2^61 times 8. The form is the project's own.
 use Rattle.std.specs.Prelude.{◌^◌, ℤ, pos, ◌*ℤ◌}
 use Rattle.flk_exact.specs.Rounding.{floor_of}
 use Rattle.flk_cert.specs.RoundedSection.{State}

@@ -26,8 +26,8 @@ starts_from_one s = s.from_one
 abbrev pub SectionStands : RowSection → List ℤ → Type 0
 SectionStands s Xs = as_state s.state ≡ state (coefs_in s) s.from_one Xs
 
--- The state stands for inputs that lie, with the next one, X, within r of the section's rest; and r and the radius behind the section that
--- follows from it are below 2^60. This keeps the numbers of the section within 64 bits.
+-- The state stands for inputs that lie, with the next one, X, within r of the section's rest; and r and the radius
+-- behind the section that follows from it are below 2^60. This keeps the numbers of the section within 64 bits.
 pub record IsCalm (s : RowSection) (X : ℤ) : Type 0 where
   pub r : ℤ
   pub inputs : List ℤ

@@ -43,6 +43,14 @@ fn sections_of(gains: [Gain; 7]) -> [RowSection; 7]
     ]
 }
 
+// The same number in 64 bits.
+fn narrow(mid: i128) -> i64
+    requires { unsigned_abs mid < 2 ^ 60 }
+    ensures { result ≡ mid }
+{
+    mid as i64
+}
+
 // Takes the next input through the sections, and answers the last output.
 fn step_in_row(sections: &mut [RowSection], mid: i64) -> i64
     requires mid { unsigned_abs mid < 2 ^ 60 }
@@ -136,8 +144,9 @@ impl Cascade {
             → result.radius ≤ℤ last_radius (numbers_of (whole_in self.old)) r }
     {
         self.take_radius(p.radius);
+        let mid = narrow(p.mid);
         Point {
-            mid: i128::from(step_in_row(&mut self.sections, p.mid as i64)),
+            mid: i128::from(step_in_row(&mut self.sections, mid)),
             radius: self.radius,
         }
     }

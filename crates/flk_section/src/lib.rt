@@ -2,13 +2,13 @@
 //! whole numbers.
 //!
 //! [`Section`] is one section with rounded products, for any inputs below 2^60. [`Cascade`] takes points, which are
-//! whole numbers with a radius, through seven sections and answers points: what stands in an answer is fixed to the last
-//! digit, and it holds the exact signal of every list of inputs that lie in the points taken, after any number of
+//! whole numbers with a radius, through seven sections and answers points: what stands in an answer is fixed to the
+//! last digit, and it holds the exact signal of every list of inputs that lie in the points taken, after any number of
 //! samples. [`fits`] says for which gains the sections' numbers stay small, and [`whole_of`] makes the bound of a whole
 //! cascade, [`Whole`], from which one can be made. No call takes memory.
 //!
-//! The numbers of a cascade's sections fit 64 bits, so it runs on sections of its own, `RowSection`, which take the same
-//! step.
+//! The numbers of a cascade's sections fit 64 bits, so it runs on sections of its own, `RowSection`, which take the
+//! same step.
 //!
 //! What the exact and the rounded sections are stands in flk_cert. Here `specs/` puts them in a row: `Cascade` exactly,
 //! `RoundedCascade` as the program runs them, `Radius` with the radii by the sections' own gains, `Filter` with the

@@ -13,8 +13,8 @@ pub struct NarrowState {
     pub s2: i64,
 }
 
-// A coefficient over 2^61 times a value, rounded down: the upper half of its product with 8 times the value, for which one instruction is
-// enough.
+// A coefficient over 2^61 times a value, rounded down: the upper half of its product with 8 times the value, for which
+// one instruction is enough.
 fn product(k: i64, v: i64) -> i64
     requires coefficient { unsigned_abs k ≤ 2 ^ 62 }
     requires value { unsigned_abs v < 2 ^ 60 }

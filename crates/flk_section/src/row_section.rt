@@ -12,8 +12,8 @@ use crate::narrow::{NarrowState, output_of, state_after};
 use crate::section::first_state;
 use flk_cert::Gain;
 
-/// A section of a cascade: the same filter as a `Section`, and the same digits, on 64 bits. That is enough where the section's signals are
-/// below 2^60 in size.
+/// A section of a cascade: the same filter as a `Section`, and the same digits, on 64 bits. That is enough where the
+/// section's signals are below 2^60 in size.
 #[derive(Clone, Copy)]
 pub struct RowSection {
     gain: Gain,

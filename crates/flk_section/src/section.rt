@@ -18,11 +18,7 @@ pub(crate) fn first_state(b0: i64, from_one: bool) -> i64
     requires { unsigned_abs b0 ≤ 2 ^ 33 }
     ensures { result ≡ (if from_one then neg_ℤ (pos 65536 *ℤ b0) else pos 0) }
 {
-    if from_one {
-        -(65536 * b0)
-    } else {
-        0
-    }
+    if from_one { -(65536 * b0) } else { 0 }
 }
 
 /// A filter section of the second order in direct form II transposed, with each product rounded down. Values are in

@@ -1,4 +1,4 @@
-use Rattle.std.proofs.Common.{rules, ◌≡◌, ℕ, ◌+◌, ◌^◌, ◌<◌, Bool, List, ◌∷◌, length, drop, map, get_or, set, ℤ, pos, ◌<ℤ◌, FitsSigned, to_z, sym, subst, ◌∙◌, add-one, arith}
+use Rattle.std.proofs.Common.{rules, ◌≡◌, ℕ, ◌+◌, ◌<◌, Bool, List, ◌∷◌, length, drop, map, get_or, set, ℤ, FitsSigned, to_z, sym, subst, ◌∙◌, add-one, arith}
 use Rattle.std.specs.Int.{w64}
 use Rattle.std.proofs.lemmas.List.{drop-set-lt}
 use Rattle.std.proofs.lemmas.Int.{to_z-of_z}

@@ -3,7 +3,6 @@ use Rattle.std.specs.Int.{w64, w128}
 use Rattle.std.specs.Int.Signed.{shr_z}
 use Rattle.std.specs.Int.RustNames.{unsigned_abs}
 use Rattle.std.proofs.lemmas.Int.{ints, to_z-of_z, fits_signed_mul}
-use Rattle.flk_section.specs.Narrow.{fine_product}
 use Rattle.flk_section.proofs.NarrowLemmas.{upper_half, fine_product_small}
 use Rattle.flk_section.proofs.narrow.product.Goals as goal
 
