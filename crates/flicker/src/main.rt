@@ -29,9 +29,9 @@ impl Gate for Open {
     }
 }
 
-// Opens the null device three times, to be read. A file that is opened gets the least number that is free, so these take
-// the places of closed standard streams, and no file of a command can get the number of standard output. What is written
-// to them fails. Where a stream isn't closed, they do nothing, and whether one can be opened matters not.
+// Opens the null device three times, to be read. A file that is opened gets the least number that is free, so these
+// take the places of closed standard streams, and no file of a command can get the number of standard output. What is
+// written to them fails. Where a stream isn't closed, they do nothing, and whether one can be opened matters not.
 fn take_closed_places(rt: &HostRuntime) -> [io::Result<File>; 3] {
     let null = "/dev/null";
     [fs::open(rt, null), fs::open(rt, null), fs::open(rt, null)]

@@ -22,8 +22,8 @@ use Rattle.flk_top.specs.declared.certified.CertifiedSection.{CertifiedSection}
 use Rattle.flk_top.specs.declared.command.Command.{Command}
 use Rattle.flk_top.specs.declared.command.Command.TheVariants.{Levels, Check, Tables, Report, Gen}
 
--- The outcome is due for a command whose outputs have these names, in the order of `outputs_of`, and whose inputs have these contents, in
--- the order of `inputs_of`.
+-- The outcome is due for a command whose outputs have these names, in the order of `outputs_of`, and whose inputs have
+-- these contents, in the order of `inputs_of`.
 abbrev pub IsDueFor : Command → (outputs contents : List (List ℕ)) → Outcome → Type 0
 IsDueFor (Levels command) [] (configuration ∷ bytes ∷ []) o = IsDueForLevels command configuration bytes o
 IsDueFor Check [] (configuration ∷ bytes ∷ []) o = IsDueForCheck configuration bytes o

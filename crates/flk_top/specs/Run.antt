@@ -36,8 +36,8 @@ pub data IsCut (words : List (List ℕ)) (o : Outcome) (result : ℕ)
   memory : result ≡ 6 → is ≡ was → AreBegun old.added new.added o.pieces
       → IsCut words o result old new was is
 
--- No count falls. Below 4 all stay; a failed read is told by 4, 5 or 6, and a failed append or write by 5. Where an append failed,
--- nothing is written.
+-- No count falls. Below 4 all stay; a failed read is told by 4, 5 or 6, and a failed append or write by 5. Where an
+-- append failed, nothing is written.
 pub record IsCounted (result : ℕ) (old new : ShelfTold) (was is : SinkTold) : Type 0 where
   pub reads_later : old.read_faults ≤ new.read_faults
   pub appends_later : old.append_faults ≤ new.append_faults

@@ -149,7 +149,7 @@ fn data_of_another_length(rt: HostRuntime) -> Result<(), Fail> {
 }
 
 // A configuration of ASCII data at 60 Hz with so many records.
-fn ascii(alloc: Global, records: &str) -> Result<String, OutOfMemory> {
+pub fn ascii(alloc: Global, records: &str) -> Result<String, OutOfMemory> {
     let mut text = String::from_str(
         alloc,
         "LAB,DAQ,1999\r\n1,1A,0D\r\n1,U,A,,V,0.01,0,0,-32767,32767,1,1,P\r\n60\r\n1\r\n2400,",

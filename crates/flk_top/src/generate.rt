@@ -40,10 +40,12 @@ fn append_records<F: Shelf>(
     requires { IsGenerated configuration.now }
     ensures whole { (seed seconds : ℕ) → HasGiven recording.old seed seconds 0
         → OnOk result (HasGiven recording.new seed seconds (records_in seconds)
-        × Appends ((F.told shelf.old).added name.now) ((F.told shelf.new).added name.now) (generated_data seed seconds)) }
+        × Appends ((F.told shelf.old).added name.now) ((F.told shelf.new).added name.now)
+        (generated_data seed seconds)) }
     ensures front { (seed seconds : ℕ) → HasGiven recording.old seed seconds 0
         → OnErr result
-        (AddsFront ((F.told shelf.old).added name.now) ((F.told shelf.new).added name.now) (generated_data seed seconds)) }
+        (AddsFront ((F.told shelf.old).added name.now) ((F.told shelf.new).added name.now)
+        (generated_data seed seconds)) }
     ensures cause { HasAppendCause (F.told shelf.old) (F.told shelf.new) result }
     ensures others { AppendsUnder name.now (F.told shelf.old) (F.told shelf.new) }
     ensures only_appends { OnlyAppends (F.told shelf.old) (F.told shelf.new) }

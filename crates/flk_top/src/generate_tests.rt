@@ -1,9 +1,7 @@
-use crate::run;
-use crate::tests::{Open, words_of};
-use flk_io::{MemShelf, MemSink, OutOfMemory};
+use crate::report_tests::answer_of;
+use flk_io::{MemShelf, OutOfMemory};
 use std::alloc::Global;
 use std::test::Fail;
-use std::thread::Threads;
 
 // The configuration of a second.
 const CONFIGURATION: &str = "GENERATED,FLK,1999
@@ -55,21 +53,6 @@ fn next_shelf(alloc: Global, shelf: &MemShelf, job: &str) -> Result<MemShelf, Ou
     Ok(next)
 }
 
-// The status and the text of these words.
-fn answer_of<R: Threads + Sync>(
-    rt: &R,
-    alloc: Global,
-    shelf: &mut MemShelf,
-    line: &str,
-) -> Result<(u8, Vec<u8>), OutOfMemory> {
-    let words = words_of(alloc, line)?;
-    let mut sink = MemSink::new(alloc, 4000, 500)?;
-    let status = run(rt, alloc, &words, shelf, &mut sink, &Open);
-    let mut text = Vec::new(alloc);
-    text.extend_from_slice(sink.written())?;
-    Ok((status, text))
-}
-
 #[test]
 fn a_generated_second(rt: HostRuntime) -> Result<(), Fail> {
     let alloc = rt.alloc();
@@ -114,7 +97,8 @@ fn words_that_generate_nothing(rt: HostRuntime) -> Result<(), Fail> {
     Ok(())
 }
 
-// Each append of a generated second fails in turn: nothing is written, and what was appended is a front of what was to come.
+// Each append of a generated second fails in turn: nothing is written, and what was appended is a front of what was to
+// come.
 #[test]
 fn each_append_fails(rt: HostRuntime) -> Result<(), Fail> {
     let alloc = rt.alloc();
@@ -157,7 +141,8 @@ fn no_place_for_the_data(rt: HostRuntime) -> Result<(), Fail> {
 }
 
 // The job of an interval of ten minutes behind a minute, on all three channels.
-const JOB: &str = "lamp = \"230/50\"\nnominal_mv = 230000\nuncertainty_uv = 6250\nchannels = [1, 2, 3]\ndmax = 7\n";
+const JOB: &str =
+    "lamp = \"230/50\"\nnominal_mv = 230000\nuncertainty_uv = 6250\nchannels = [1, 2, 3]\ndmax = 7\n";
 
 // Eleven generated minutes have one report for each number of workers.
 #[test]

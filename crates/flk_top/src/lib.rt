@@ -34,6 +34,8 @@ mod faults;
 mod generate;
 #[cfg(test)]
 mod generate_tests;
+#[cfg(test)]
+mod hostile_tests;
 mod job;
 mod laws;
 mod levels;

@@ -49,7 +49,7 @@ pub fn answer_of<R: Threads + Sync>(
     line: &str,
 ) -> Result<(u8, Vec<u8>), OutOfMemory> {
     let words = words_of(alloc, line)?;
-    let mut sink = MemSink::new(alloc, 2000, 500)?;
+    let mut sink = MemSink::new(alloc, 4000, 500)?;
     let status = run(rt, alloc, &words, shelf, &mut sink, &Open);
     let mut text = Vec::new(alloc);
     text.extend_from_slice(sink.written())?;

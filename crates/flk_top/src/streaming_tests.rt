@@ -108,7 +108,8 @@ fn reading_waits_for_the_work(rt: HostRuntime) -> Result<(), Fail> {
     Ok(())
 }
 
-// Twenty million records are claimed, and one is there. Two reads take each file, and no read is made ready for more than is usual.
+// Twenty million records are claimed, and one is there. Two reads take each file, and no read is made ready for more
+// than is usual.
 #[test]
 fn a_claim_of_twenty_million_records(rt: HostRuntime) -> Result<(), Fail> {
     let alloc = rt.alloc();

@@ -1,5 +1,5 @@
-//! How wide the intervals of a report are, beside the bounds that follow from the samples. The bounds are computed here in whole numbers,
-//! and each step is rounded to the safe side.
+//! How wide the intervals of a report are, beside the bounds that follow from the samples. The bounds are computed here
+//! in whole numbers, and each step is rounded to the safe side.
 
 use crate::report_tests::{answer_of, shelf_of, short_job};
 use crate::tests::{square_wave, varied};
@@ -10,8 +10,8 @@ use std::thread::Threads;
 
 // ---- bounds
 
-// What bounds the radius behind the filter of the lamp 230/50: the gain of its first section, and the bound of the others in a row. Inputs are
-// over 2^32, shares of rounding in units of 2^-48.
+// What bounds the radius behind the filter of the lamp 230/50: the gain of its first section, and the bound of the
+// others in a row. Inputs are over 2^32, shares of rounding in units of 2^-48.
 #[derive(Clone, Copy)]
 struct Filter {
     first_input: u128,
@@ -34,7 +34,8 @@ const AT_4800: Filter = Filter {
     chain_rounding: 30_523,
 };
 
-// How far a voltage may be from its ends, relative to a nominal voltage of 230 V, in units of 2^-64: the uncertainty and 2^-47.
+// How far a voltage may be from its ends, relative to a nominal voltage of 230 V, in units of 2^-64: the uncertainty
+// and 2^-47.
 fn doubt(uncertainty_uv: u32) -> u128 {
     (u128::from(uncertainty_uv) << 64)
         .div_ceil(230_000_000)
@@ -46,8 +47,9 @@ fn half_period_width(doubt: u128) -> u128 {
     (doubt.wrapping_mul(3_000_000_000) >> 64).wrapping_add(3)
 }
 
-// The radius of the adaptor's outputs, in units of 2^-48: 2 E (1/R + A^2/R^2) + 2^-40, where E is 2 A d + d^2 with the doubt d, A the greatest
-// size of a voltage, and R the least number by which a square is divided, both in units of 2^-32.
+// The radius of the adaptor's outputs, in units of 2^-48: 2 E (1/R + A^2/R^2) + 2^-40, where E is 2 A d + d^2 with the
+// doubt d, A the greatest size of a voltage, and R the least number by which a square is divided, both in units of
+// 2^-32.
 fn output_radius(doubt: u128, greatest: u128, least: u128) -> u128 {
     let reach = greatest
         .wrapping_mul(doubt)
@@ -150,8 +152,8 @@ fn widths_of_the_square_wave(rt: HostRuntime) -> Result<(), Fail> {
 
 // ---- other recordings
 
-// Five seconds of a wave that rises and falls in a quarter of each half-period, in units of 10 mV. Its size is drawn anew after each 1.25
-// seconds, from the least one on in steps of 2 V.
+// Five seconds of a wave that rises and falls in a quarter of each half-period, in units of 10 mV. Its size is drawn
+// anew after each 1.25 seconds, from the least one on in steps of 2 V.
 fn drawn_wave(alloc: Global, rate: u32, least: u16, seed: u32) -> Result<Vec<i16>, OutOfMemory> {
     let half = (rate / 100).max(1);
     let mut values = Vec::new(alloc);
@@ -195,8 +197,8 @@ fn greatest_size(values: &[i16]) -> u128 {
     (u128::from(greatest) << 32).div_ceil(23_000)
 }
 
-// The least number by which a square is divided, in units of 2^-32: the mean of the squares before it, in which a sample counts for one part in
-// 65,536 or in twice as many, and at least a quarter.
+// The least number by which a square is divided, in units of 2^-32: the mean of the squares before it, in which a
+// sample counts for one part in 65,536 or in twice as many, and at least a quarter.
 fn least_divisor(values: &[i16], parts: u128) -> u128 {
     let parts = parts.max(1);
     let mut mean: u128 = 1 << 64;
