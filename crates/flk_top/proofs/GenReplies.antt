@@ -1,19 +1,17 @@
 -- What `gen` appends, name by name, and what its end tells.
-use Rattle.std.proofs.Common.{◌≡◌, ◌≢◌, ◌⊎◌, ℕ, ◌+◌, ◌<◌, ◌≤◌, List, [], ◌∷◌, ◌++◌, length, take, Option, Result, Ok, Err, IfOk, IfErr, OnOk, OnErr, refl, sym, ap, ◌∙◌, subst, arith, inl, inr, append-nil}
+use Rattle.std.proofs.Common.{◌≡◌, ◌≢◌, ◌⊎◌, ℕ, List, [], ◌∷◌, take, Option, Result, Ok, Err, IfOk, IfErr, OnErr, refl, sym, ◌∙◌, subst, arith, inl, inr, append-nil}
 use Rattle.std.specs.Prelude.{Contains, IsErrOf}
 use Rattle.std.specs.Io.KnownBytes.{Appends}
 use Rattle.std.proofs.KnownBytes.{Appends-nil}
 use Rattle.flk_field.proofs.SetCases.{same_text}
-use Rattle.flk_io.specs.Causes.{Rose, CountsOn, OthersStay, AddsFront}
+use Rattle.flk_io.specs.Causes.{Rose, OthersStay, AddsFront}
 use Rattle.flk_io.specs.Told.{ShelfTold, OnlyAppends, AppendsUnder}
-use Rattle.flk_io.proofs.Told.{CountsOn-same}
 use Rattle.flk_top.specs.Answer.{asked}
-use Rattle.flk_top.specs.Command.{Asks, IsGen, IsInput, IsOutput, outputs_of, gen_configuration_name, gen_data_name}
+use Rattle.flk_top.specs.Command.{Asks, outputs_of, gen_configuration_name, gen_data_name}
 use Rattle.flk_top.specs.GenDue.{gen_outcome}
-use Rattle.flk_top.specs.Outcome.{Piece, Outcome, appended_under, AreFirstPieces}
-use Rattle.flk_top.specs.Replies.{IsHonest, IsDueSomewhere, Tells, IsTold, IsBegun, IsCutOff, CountOn, AppendsOnly, HasAppendCause}
-use Rattle.flk_top.specs.Run.{IsConfined, ReadsInTurn}
-use Rattle.flk_top.specs.Status.{status_number}
+use Rattle.flk_top.specs.Outcome.{Piece, Outcome, appended_under}
+use Rattle.flk_top.specs.Replies.{IsDueSomewhere, Tells, IsTold, IsCutOff, AppendsOnly, HasAppendCause}
+use Rattle.flk_top.specs.Run.{IsConfined}
 use Rattle.flk_top.specs.Told.{AreAppended, AreBegun}
 use Rattle.flk_top.specs.declared.command.Command.TheVariants.{Gen}
 use Rattle.flk_top.specs.declared.command.GenCommand.{GenCommand}
@@ -128,6 +126,19 @@ pub one_appended_only : (old new : ShelfTold) (a b : List ℕ) → AppendsUnder 
 one_appended_only old new a b first = λ name never.
     first name (λ same. never (subst (λ (n : List ℕ). Contains (n ∷ b ∷ []) name) same (contains_first (b ∷ []) name)))
 
+-- ---- the same of equal names and bytes
+
+pub appended_as : (old new : Added) (n a bytes x : List ℕ) → n ≡ a → bytes ≡ x → Appends (old n) (new n) bytes → Appends (old a) (new a) x
+appended_as old new n a bytes x is_a is_x h =
+    subst (λ (m : List ℕ). Appends (old m) (new m) x) is_a (subst (λ (all : List ℕ). Appends (old n) (new n) all) is_x h)
+
+pub front_as : (old new : Added) (n a bytes x : List ℕ) → n ≡ a → bytes ≡ x → AddsFront (old n) (new n) bytes → AddsFront (old a) (new a) x
+front_as old new n a bytes x is_a is_x h =
+    subst (λ (m : List ℕ). AddsFront (old m) (new m) x) is_a (subst (λ (all : List ℕ). AddsFront (old n) (new n) all) is_x h)
+
+pub others_as : (old new : Added) (n a : List ℕ) → n ≡ a → OthersStay n old new → OthersStay a old new
+others_as old new n a is_a h = subst (λ (m : List ℕ). OthersStay m old new) is_a h
+
 -- ---- the cause of an end
 
 pub cause_after : {T : Type 0} (old mid new : ShelfTold) (r : Result T CutOff) → mid.append_faults ≡ old.append_faults → HasAppendCause mid new r → HasAppendCause old new r
@@ -153,48 +164,15 @@ pub gen_told : {E : Type 0} (words : List (List ℕ)) (old new : ShelfTold) (com
 gen_told words old new command (Ok x) asks done = λ fine. (outcome_in words command, gen_due words old command asks, done.0, done.1)
 gen_told words old new command (Err e) asks done = tt
 
-not_a_read : (words : List (List ℕ)) (command : GenCommand) (x : Reply) → Tells x (outcome_in words command) → x.status ≢ ReadFailed
-not_a_read words command x tells failed =
-    let e : 0 ≡ 4 = subst (λ s. 0 ≡ status_number s) failed tells.status in
-    omega (arith, e)
-
-pub gen_not_failed : {E : Type 0} (words : List (List ℕ)) (old new : ShelfTold) (command : GenCommand) (r : Result Reply E)
-    → IfOk r (IsGenDone words command old new) → IfOk r (λ x. x.status ≡ ReadFailed → ((name : List ℕ) × IsInput words name) × IsBegun words old new)
-gen_not_failed words old new command (Ok x) done = λ failed. absurd (not_a_read words command x done.0 failed)
-gen_not_failed words old new command (Err e) done = tt
-
-pub gen_honest : {E : Type 0} (words : List (List ℕ)) (old new : ShelfTold) (command : GenCommand) (r : Result Reply E) → OnlyAppends old new
-    → IfOk r (IsGenDone words command old new) → IfOk r (IsHonest old new)
-gen_honest words old new command (Ok x) appends done = record {
-  text = λ failed. absurd (not_a_read words command x done.0 failed);
-  rose = λ failed. absurd (not_a_read words command x done.0 failed);
-  quiet = λ fine. appends.read_faults;
-}
-gen_honest words old new command (Err e) appends done = tt
-
 pub gen_cut_off : {T : Type 0} (words : List (List ℕ)) (old new : ShelfTold) (command : GenCommand) (r : Result T CutOff) → Asks words (Gen command)
     → OnErr r (AreBegun old.added new.added (outcome_in words command).pieces) → HasAppendCause old new r → IfErr r (IsCutOff words old new)
-gen_cut_off words old new command (Ok x) asks begun cause = tt
-gen_cut_off words old new command (Err AppendFailed) asks begun cause = (cause.rose refl, outcome_in words command, gen_due words old command asks, (λ none. cc), begun)
-gen_cut_off words old new command (Err OutOfMemory) asks begun cause = ((outcome_in words command, gen_due words old command asks, begun), kept cause.kept)
+gen_cut_off {T = T} words old new command (Ok x) asks begun cause = tt
+gen_cut_off {T = T} words old new command (Err AppendFailed) asks begun cause = (cause.rose refl, outcome_in words command, gen_due words old command asks, (λ none. cc), begun)
+gen_cut_off {T = T} words old new command (Err OutOfMemory) asks begun cause = ((outcome_in words command, gen_due words old command asks, begun), kept cause.kept)
   where
-    kept : (IsErrOf {T} (Err OutOfMemory) AppendFailed) ⊎ (new.append_faults ≡ old.append_faults) → new.append_faults ≡ old.append_faults
+    kept : (IsErrOf {T = T} {E = CutOff} (Err OutOfMemory) AppendFailed) ⊎ (new.append_faults ≡ old.append_faults) → new.append_faults ≡ old.append_faults
     kept (inl failed) = absurd (cc)
     kept (inr same) = same
-
-pub gen_quiet : {T : Type 0} (old new : ShelfTold) (r : Result T CutOff) → HasAppendCause old new r → OnOk r (new.append_faults ≡ old.append_faults)
-gen_quiet old new (Ok x) cause = kept cause.kept
-  where
-    kept : (IsErrOf {E = CutOff} (Ok x) AppendFailed) ⊎ (new.append_faults ≡ old.append_faults) → new.append_faults ≡ old.append_faults
-    kept (inl failed) = absurd failed
-    kept (inr same) = same
-gen_quiet old new (Err e) cause = tt
-
-pub appends_count : (old new : ShelfTold) → OnlyAppends old new → CountOn old new
-appends_count old new appends = record {
-  reads = record { later = omega (arith, appends.read_faults); stands = λ end. appends.read_faults };
-  appends = appends.count;
-}
 
 pub gen_confined : (words : List (List ℕ)) (old new : ShelfTold) (command : GenCommand) → Asks words (Gen command) → OnlyAppends old new → AppendsOnly (outputs_of (Gen command) words) old new
     → IsConfined words old new
@@ -204,6 +182,3 @@ gen_confined words old new command asks appends only = record {
   reads = λ never. appends.read_faults;
   appends = λ never. absurd (never (gen_configuration_name words) (Gen command, asks, contains_first (gen_data_name words ∷ []) (gen_configuration_name words)));
 }
-
-pub gen_turn : (words : List (List ℕ)) (old new : ShelfTold) → OnlyAppends old new → ReadsInTurn words old new
-gen_turn words old new appends = λ files tells q asks i less never. appends.nothing_taken _

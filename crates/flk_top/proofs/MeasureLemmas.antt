@@ -14,7 +14,7 @@ use Rattle.flk_half.specs.Cutter.{IsHalfPeriodInterval, Continues, EndsHalfPerio
 use Rattle.flk_half.proofs.IntervalsLemmas.{HasCut-continues, HasCut-ends}
 use Rattle.flk_dat.specs.Records.{DataRecord, record_at, no_record}
 use Rattle.flk_scale.specs.Range.{IsFirstOver, IsWithinRange, voltage_at}
-use Rattle.flk_scale.proofs.RangeLemmas.{within_more}
+use Rattle.flk_scale.proofs.RangeLemmas.{voltage_before, voltage_last, within_more}
 use Rattle.flk_top.specs.Levels.{AreExtremeIntervalsIfAny, Gains, AreHalfPeriodLevels}
 use Rattle.flk_top.specs.Measuring.{half_of, told_voltage, HasMeasured, IsSameMeasurement}
 use Rattle.flk_top.specs.declared.measure.Levels.{Levels}

@@ -1,12 +1,12 @@
 -- From a composed reply, and from its writing, to what is promised of a run.
-use Rattle.std.proofs.Common.{◌≡◌, ◌≢◌, ℕ, suc, ◌<◌, ◌≤◌, List, [], ◌∷◌, take, map, Option, Some, Result, Ok, Err, IfOk, refl, sym, ap, ◌∙◌, subst, string_bytes, arith, inl, inr}
-use Rattle.std.specs.Prelude.{Contains}
+use Rattle.std.proofs.Common.{◌≡◌, ◌≢◌, ℕ, suc, ◌<◌, ◌≤◌, List, [], ◌∷◌, take, map, Option, Some, Result, Ok, Err, IfOk, IfErr, refl, sym, ap, ◌∙◌, subst, string_bytes, arith, inl, inr}
+use Rattle.std.specs.Prelude.{Contains, IsErrAnd}
 use Rattle.std.specs.Str.{bytes_eq}
 use Rattle.std.specs.Io.KnownBytes.{Appends}
 use Rattle.std.proofs.KnownBytes.{Appends-nil}
 use Rattle.std.proofs.lemmas.Bool.{cases_Bool}
-use Rattle.flk_io.specs.Causes.{Rose, CountsOn, AddsFront}
-use Rattle.flk_io.specs.Told.{ShelfTold, SinkTold, OnlyReads, OnlyAppends}
+use Rattle.flk_io.specs.Causes.{Rose, AddsFront}
+use Rattle.flk_io.specs.Told.{ShelfTold, SinkTold, OnlyReads}
 use Rattle.flk_num.specs.declared.lamp.Lamp.{Lamp}
 use Rattle.flk_num.specs.declared.rate.Rate.{Rate}
 use Rattle.flk_top.specs.Answer.{IsDueFor, IsDue, usage, asked}
@@ -14,7 +14,7 @@ use Rattle.flk_top.specs.Command.{Asks, IsNoCommand, inputs_of, outputs_of, IsIn
 use Rattle.flk_top.specs.Faults.{usage_line}
 use Rattle.flk_top.specs.Headline.{MeasuredRecording, AreAccepted, TellsLevels, ReportedRecording, AreAcceptedForReport, TellsReport}
 use Rattle.flk_top.specs.Outcome.{Piece, Outcome, appended_under}
-use Rattle.flk_top.specs.Replies.{outcome_of, IsExplained, IsHonest, ReadsOnly, AwaitsTurns, IsDueSomewhere, Tells, IsTold, IsBegun, IsCutOff, CountOn}
+use Rattle.flk_top.specs.Replies.{outcome_of, IsExplained, IsHonest, ReadsOnly, AwaitsTurns, IsDueSomewhere, IsTold, IsBegun, IsCutOff, CountOn}
 use Rattle.flk_top.specs.Run.{IsCut, read, append, write, read_and_write, memory, IsCounted, IsConfined, DoneIsDue, CutIsDue, ReadsInTurn}
 use Rattle.flk_top.specs.Status.{status_number, cut_off_number}
 use Rattle.flk_top.specs.Tables.{IsDueForTables}
@@ -249,6 +249,15 @@ reads_count old new reads = record {
   appends = record { later = omega (arith, reads.append_faults); stands = λ end. reads.append_faults };
 }
 
+pub no_reply : {T E : Type 0} (r : Result T E) (P : T → Type 0) (Q : E → Type 0) → IsErrAnd r Q → IfOk r P
+no_reply (Ok x) P Q is = absurd is
+no_reply (Err e) P Q is = tt
+
+pub memory_short : {T : Type 0} (words : List (List ℕ)) (old new : ShelfTold) (r : Result T CutOff) → OnlyReads old new → IsErrAnd r (λ e. e ≡ OutOfMemory)
+    → IfErr r (IsCutOff words old new)
+memory_short words old new (Ok x) reads is = absurd is
+memory_short words old new (Err e) reads is = subst (IsCutOff words old new) (sym is) (nothing_begun words old new reads, reads.append_faults)
+
 -- ---- the levels of accepted files
 
 pub done_levels : (words : List (List ℕ)) (n : ℕ) (old new : ShelfTold) (was is : SinkTold) → DoneIsDue words n old new was is
@@ -316,11 +325,6 @@ explained_all words told q (Ok x) asks silent h = λ fine. explained_due words t
 explained_all words told q (Err e) asks silent h = tt
 
 -- ---- the commands that read nothing
-
-pub usage_replies : {E : Type 0} (words : List (List ℕ)) (told : ShelfTold) (r : Result Reply E) → IsNoCommand words
-    → IfOk r (λ x. (x.status ≡ Refused) × (string_bytes x.text ≡ usage_line)) → IfOk r (λ x. x.status ≢ ReadFailed → IsDueSomewhere words told (outcome_of x))
-usage_replies words told (Ok x) none h = λ fine. usage_due words told x none h.0 h.1
-usage_replies words told (Err e) none h = tt
 
 pub tables_replies : {E : Type 0} (words : List (List ℕ)) (told : ShelfTold) (lamp : Lamp) (rate : Rate) (r : Result Reply E) → Asks words (Tables lamp rate)
     → IfOk r (λ x. IsDueForTables lamp rate (outcome_of x)) → IfOk r (λ x. x.status ≢ ReadFailed → IsDueSomewhere words told (outcome_of x))

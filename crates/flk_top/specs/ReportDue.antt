@@ -1,6 +1,6 @@
 -- What `report` answers: the first fault of the job, of the configuration, of their match, of the lamp or of the data,
 -- or the report of the job's channels. The number of workers is no argument of anything here.
-use Rattle.std.specs.Prelude.{◌≡◌, ℕ, ◌+◌, ◌*◌, ◌<◌, List, [], length, slice_index_or}
+use Rattle.std.specs.Prelude.{◌≡◌, ℕ, ◌+◌, ◌<◌, List, [], length, slice_index_or}
 use Rattle.std.specs.List.{AllZip}
 use Rattle.flk_cfg.specs.declared.config.Analog.{Analog}
 use Rattle.flk_cfg.specs.declared.config.Config.{Config}
