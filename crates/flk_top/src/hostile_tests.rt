@@ -28,23 +28,44 @@ fn is_fault<R: Threads + Sync>(
 
 // ---- files that are cut
 
-// The first record that isn't whole is told, whatever the command.
+// The first bytes of a file, or all where it has no more.
+fn front(bytes: &[u8], count: usize) -> &[u8] {
+    bytes.get(..count).unwrap_or(bytes)
+}
+
+// Whether the first record that isn't whole is told where so many bytes of the data of so many records are there.
+fn is_cut_told<R: Threads + Sync>(
+    rt: &R,
+    alloc: Global,
+    line: &str,
+    records: u32,
+    count: usize,
+) -> Result<bool, OutOfMemory> {
+    let job = short_job(alloc, "", "")?;
+    let samples = format!(in alloc; "2400,{records}")?;
+    let configuration = varied(alloc, "2400,4800", samples.as_str())?;
+    let data = wave(alloc, records)?;
+    let cut = front(&data, count);
+    let mut shelf = shelf_of(alloc, job.as_str(), configuration.as_str(), cut)?;
+    let fault = format!(in alloc; "fault data {} 0 5\n", 1 + count / 10)?;
+    is_fault(rt, alloc, &mut shelf, line, fault.as_str())
+}
+
 #[test]
 fn data_cut_at_each_byte(rt: HostRuntime) -> Result<(), Fail> {
-    let alloc = rt.alloc();
-    let job = short_job(alloc, "", "")?;
-    for (line, records, step) in [(LEVELS, 48, 1), (CHECK, 48, 1), (REPORT, 2400, 101)] {
-        let samples = format!(in alloc; "2400,{records}")?;
-        let configuration = varied(alloc, "2400,4800", samples.as_str())?;
-        let data = wave(alloc, records)?;
-        for k in (0..data.len()).step_by(step) {
-            let mut shelf = shelf_of(alloc, job.as_str(), configuration.as_str(), &data[..k])?;
-            let fault = format!(in alloc; "fault data {} 0 5\n", 1 + k / 10)?;
-            assert!(rt;
-                is_fault(&rt, alloc, &mut shelf, line, fault.as_str())?,
-                "{line} {k}"
-            );
+    for line in [LEVELS, CHECK] {
+        for k in 0..480 {
+            assert!(rt; is_cut_told(&rt, rt.alloc(), line, 48, k)?, "{line} {k}");
         }
+    }
+    Ok(())
+}
+
+// The least records that make an interval have 24,000 bytes.
+#[test]
+fn data_of_a_report_cut(rt: HostRuntime) -> Result<(), Fail> {
+    for k in 0..238 {
+        assert!(rt; is_cut_told(&rt, rt.alloc(), REPORT, 2400, 101 * k)?, "{k}");
     }
     Ok(())
 }
@@ -99,7 +120,7 @@ fn configuration_cut_at_each_byte(rt: HostRuntime) -> Result<(), Fail> {
         };
         for k in begin..end {
             let mut shelf = MemShelf::new(alloc);
-            shelf.put("C", configuration.as_bytes().get(..k).unwrap_or(b""))?;
+            shelf.put("C", front(configuration.as_bytes(), k))?;
             shelf.put("D", &data)?;
             let (answered, written) = answer_of(&rt, alloc, &mut shelf, LEVELS)?;
             assert_eq!(rt; answered, status, "{k}");
@@ -126,26 +147,34 @@ fn shelf_in_pieces(alloc: Global, records: u32) -> Result<MemShelf, OutOfMemory>
     Ok(shelf)
 }
 
-// The least number of reads that each command makes is that of the bytes, 16 at a time.
+// How many reads of a command failed, each in a run of its own, until it made no more. Each was told.
+fn failed_reads<R: Threads + Sync>(
+    rt: &R,
+    alloc: Global,
+    line: &str,
+    records: u32,
+) -> Result<Option<u64>, OutOfMemory> {
+    for call in 1..2000 {
+        let mut shelf = shelf_in_pieces(alloc, records)?;
+        shelf.fail_at(call)?;
+        let (status, text) = answer_of(rt, alloc, &mut shelf, line)?;
+        if status == 0 {
+            return Ok(Some(call - 1));
+        }
+        if status != 4 || text.as_slice() != b"fault read\n" || shelf.faults() != 1 {
+            return Ok(None);
+        }
+    }
+    Ok(None)
+}
+
+// 16 bytes at a time, `levels` and `check` read the configuration's 144 bytes and the data's 480, and `report` a job of
+// 107 bytes, a configuration of 146 and data of 24,000; and one read tells the end of each.
 #[test]
 fn each_read_fails(rt: HostRuntime) -> Result<(), Fail> {
-    let alloc = rt.alloc();
-    for (line, records, least) in [(LEVELS, 48, 39), (CHECK, 48, 39), (REPORT, 2400, 1516)] {
-        let mut call = 0;
-        let mut ended = 4;
-        while ended == 4 && call < 2000 {
-            call += 1;
-            let mut shelf = shelf_in_pieces(alloc, records)?;
-            shelf.fail_at(call)?;
-            let (status, text) = answer_of(&rt, alloc, &mut shelf, line)?;
-            ended = status;
-            if status == 4 {
-                assert_eq!(rt; text.as_slice(), b"fault read\n".as_slice());
-                assert_eq!(rt; shelf.faults(), 1);
-            }
-        }
-        assert_eq!(rt; ended, 0, "{line}");
-        assert!(rt; call > least, "{line}");
+    for (line, records, reads) in [(LEVELS, 48, 41), (CHECK, 48, 41), (REPORT, 2400, 1520)] {
+        let failed = failed_reads(&rt, rt.alloc(), line, records)?;
+        assert_eq!(rt; failed, Some(reads), "{line}");
     }
     Ok(())
 }
@@ -163,17 +192,16 @@ fn each_write_fails(rt: HostRuntime) -> Result<(), Fail> {
         let (status, whole) = answer_of(&rt, alloc, &mut shelf_in_pieces(alloc, records)?, line)?;
         assert_eq!(rt; status, 0, "{line}");
         let words = words_of(alloc, line)?;
-        for (call, before) in (0..whole.len()).step_by(16).enumerate() {
-            let mut shelf = shelf_in_pieces(alloc, records)?;
-            let mut sink = MemSink::new(alloc, 4000, 16)?;
-            sink.fail_at(call as u64 + 1)?;
-            assert_eq!(rt;
-                run(&rt, alloc, &words, &mut shelf, &mut sink, &Open),
-                5,
-                "{line} {before}"
-            );
-            assert_eq!(rt; sink.written(), &whole[..before], "{line} {before}");
-            assert_eq!(rt; (shelf.faults(), sink.faults()), (0, 1));
+        for call in 0..250usize {
+            if 16 * call < whole.len() {
+                let mut shelf = shelf_in_pieces(alloc, records)?;
+                let mut sink = MemSink::new(alloc, 4000, 16)?;
+                sink.fail_at(call as u64 + 1)?;
+                let answered = run(&rt, alloc, &words, &mut shelf, &mut sink, &Open);
+                assert_eq!(rt; answered, 5, "{line} {call}");
+                assert_eq!(rt; sink.written(), front(&whole, 16 * call), "{line} {call}");
+                assert_eq!(rt; (shelf.faults(), sink.faults()), (0, 1));
+            }
         }
     }
     Ok(())
