@@ -4,7 +4,8 @@
     python3 tests/refused_memory.py PROGRAM                 over the examples: `check`, `levels`, `report` and `tables`
     python3 tests/refused_memory.py PROGRAM WORD ..         the words of any command, in the folder of its files
 
-The program must then answer 6 and print nothing, or 4 and `fault read` where the memory was for a file's name, or answer as with ample memory.
+The program must then answer 6 and print nothing, or as where a read failed (`gen`: an append) where the memory was for a file's name, or as
+with ample memory.
 What it appended, where the command appends, must be a front of what it appends with ample memory. `cc` compiles the refusals. Prints a
 table of counts, and ends with status 1 where an answer is another one."""
 import os
@@ -16,10 +17,11 @@ import tempfile
 EXAMPLES = os.path.join(os.path.dirname(os.path.dirname(os.path.abspath(__file__))), "examples")
 RUNS = (("damaged", "check recording.cfg recording.dat"), ("square", "levels recording.cfg recording.dat 1 230000 1"),
         ("dip", "report job.toml recording.cfg recording.dat 1"), ("three_phases", "report job.toml recording.cfg recording.dat 3"),
-        ("three_phases", "tables 230/50"), ("damaged", "check recording.cfg order.dat"))
+        ("three_phases", "tables 230/50"), ("damaged", "check recording.cfg order.dat"), ("damaged", "gen 1 1 generated.cfg generated.dat"))
 NOTHING = (6, b"", b"")
 READ = (4, b"fault read\n", b"")
-FOR_A_NAME = 2      # at most so many requests are made for a name before its file is read: for its bytes, and for its place in the table
+APPEND = (5, b"", b"")
+FOR_A_NAME = 2      # at most so many requests are made for a name before its file is used: for its bytes, and for its place in the table
 
 # Stands before the C library: the request with the number REFUSED is refused, and told on the error output.
 REFUSALS = r"""
@@ -124,8 +126,9 @@ class Command:
 
 def tried(command):
     """The counts of each answer while each request is refused in turn; None where an answer is another one."""
-    counts, number = {command.right: 0, NOTHING: 0, READ: 0}, 0
-    names = sum(os.path.exists(os.path.join(command.source, word)) for word in command.words)
+    failed = APPEND if command.words[0] == "gen" else READ
+    counts, number = {command.right: 0, NOTHING: 0, failed: 0}, 0
+    names = sum(word in command.made for word in command.words)
     while True:
         number += 1
         said, made, refused = command.answer(number)
@@ -135,10 +138,10 @@ def tried(command):
         if not refused:
             break
         counts[said] += 1
-    if counts[NOTHING] == 0 and command.right != NOTHING or counts[READ] > FOR_A_NAME * names:
+    if counts[NOTHING] == 0 and command.right != NOTHING or counts[failed] > FOR_A_NAME * names:
         print("%s: %r" % (" ".join(command.words), counts))
         return None
-    return number - 1, counts[NOTHING], counts[READ], counts[command.right]
+    return number - 1, counts[NOTHING], counts[failed], counts[command.right]
 
 
 def main():
@@ -146,7 +149,7 @@ def main():
         sys.exit(__doc__)
     runs = [(os.getcwd(), sys.argv[2:])] if sys.argv[2:] else [(os.path.join(EXAMPLES, name), words.split()) for name, words in RUNS]
     failed = False
-    print("| words | requests | status 6, nothing printed | status 4, `fault read` | the whole text |\n|---|---|---|---|---|")
+    print("| words | requests | status 6, nothing printed | status 4, `fault read`, or 5, nothing printed | the whole text |\n|---|---|---|---|---|")
     with tempfile.TemporaryDirectory() as folder:
         refusals = library(folder)
         for source, words in runs:

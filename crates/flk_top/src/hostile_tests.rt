@@ -161,7 +161,7 @@ fn failed_reads<R: Threads + Sync>(
         if status == 0 {
             return Ok(Some(call - 1));
         }
-        if status != 4 || text.as_slice() != b"fault read\n" || shelf.faults() != 1 {
+        if status != 4 || text.as_slice() != b"fault read\n".as_slice() || shelf.faults() != 1 {
             return Ok(None);
         }
     }
