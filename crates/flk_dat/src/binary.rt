@@ -88,6 +88,7 @@ fn stamp_at(bytes: &[u8]) -> u32
 }
 
 /// The value of an analog channel, counted from 0, or None where it is missing and the channel is selected.
+#[inline(always)]
 fn value_or_missing(form: Form, bytes: &[u8], i: usize, selected: bool) -> Option<i32>
     requires few { i < 256 }
     requires there { 8 + width_of_value form * i + width_of_value form ≤ length bytes.now }
@@ -104,6 +105,7 @@ fn value_or_missing(form: Form, bytes: &[u8], i: usize, selected: bool) -> Optio
 
 /// Reads the analog values into a row of the columns, or answers the place of the first selected channel whose value is
 /// missing.
+#[inline(always)]
 fn read_values(
     channels: &Channels,
     bytes: &[u8],
@@ -131,6 +133,7 @@ fn read_values(
 }
 
 /// Reads the digital values, which follow so many analog ones, into a row of the columns.
+#[inline(always)]
 fn read_bits(form: Form, bytes: &[u8], analog: usize, columns: &mut Vec<Column<bool>>, row: usize)
     requires few { (length columns.old.items ≤ 256) × (analog ≤ 256) }
     requires there { size_of_record form analog (length columns.old.items) ≤ length bytes.now }
@@ -146,6 +149,7 @@ fn read_bits(form: Form, bytes: &[u8], analog: usize, columns: &mut Vec<Column<b
 }
 
 /// Reads the record with which the bytes begin: its front, and its values into a row of the columns.
+#[inline(always)]
 pub fn read_binary(
     channels: &Channels,
     before: Option<u32>,

@@ -145,6 +145,7 @@ impl Block {
 
     /// Reads a record and puts it at the end: a line, which may have a CR at its end, or the binary record with which
     /// the bytes begin. It answers the record's number.
+    #[inline(always)]
     pub(crate) fn read(
         &mut self,
         channels: &Channels,

@@ -46,6 +46,7 @@ impl<T: Copy> Column<T> {
     }
 
     /// Puts a value at a place.
+    #[inline(always)]
     pub fn put(&mut self, place: usize, value: T)
         requires { place < length self.old }
         ensures { self.new ≡ set self.old place value }

@@ -13,6 +13,7 @@ use flk_cfg::Form;
 
 /// Reads the record that is what was held and then these bytes, and puts it at the end of the block. It answers the
 /// record's number. The bytes are up to the end of a line, or of a binary record.
+#[inline(always)]
 pub fn read_held(
     out: &mut Block,
     rest: &mut Rest,

@@ -157,6 +157,7 @@ impl Reader {
     }
 
     /// Takes bytes up to the end of the piece, or to the end of the last record that fits.
+    #[inline(always)]
     fn take(&mut self, piece: &[u8], out: &mut Block) -> Result<usize, Fault>
         requires { FitsBlock self.old out.old }
         ensures taken { MatchResult result (λ n. TakesAll self.old self.new out.old out.new piece.now n)
@@ -171,6 +172,7 @@ impl Reader {
     }
 
     /// Takes bytes up to the end of the record that is due, or all bytes.
+    #[inline(always)]
     fn step(&mut self, piece: &[u8], out: &mut Block) -> Result<usize, Fault>
         requires some { 0 < length piece.now }
         requires fits { FitsBlock self.old out.old }
@@ -241,6 +243,7 @@ impl Reader {
     }
 
     /// Takes bytes of a binary record.
+    #[inline(always)]
     fn take_binary(&mut self, piece: &[u8], out: &mut Block) -> Result<usize, Fault>
         requires some { 0 < length piece.now }
         requires form { self.old.channels.form ≢ forms.Ascii }
@@ -272,6 +275,7 @@ impl Reader {
     }
 
     /// Counts the record that was put into the block.
+    #[inline(always)]
     fn count(&mut self, number: u32, tail: Tail)
         requires { self.old.given < self.old.records }
         ensures { Gives self.old self.new number tail }

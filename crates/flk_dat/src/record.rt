@@ -16,6 +16,7 @@ use flk_cfg::Form;
 
 /// Reads a record: a line, which may have a CR at its end, or the binary record with which the bytes begin. The
 /// record's values go into a row of the columns.
+#[inline(always)]
 pub fn read_record(
     channels: &Channels,
     before: Option<u32>,
