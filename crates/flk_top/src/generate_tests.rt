@@ -1,7 +1,10 @@
+ghost use Rattle.std.specs.Prelude.{◌≤◌};
+
 use crate::report_tests::answer_of;
 use flk_io::{MemShelf, OutOfMemory};
 use std::alloc::Global;
 use std::test::Fail;
+use std::thread::Threads;
 
 // The configuration of a second.
 const CONFIGURATION: &str = "GENERATED,FLK,1999
@@ -25,6 +28,8 @@ const LAST: &str = "\r\n2400,999583,-3397,-20584,23968\r\n";
 
 const SUMMARY: &str = "gen\nrecords 2400\nlast -3397 -20584 23968\n";
 
+const CHECKED: &str = "check\nanalog 3 digital 0\nrecords 2400\nfirst 1\nform ASCII\n";
+
 // A text with CR before each LF.
 fn with_cr(alloc: Global, text: &str) -> Result<String, OutOfMemory> {
     let mut out = String::new(alloc);
@@ -36,7 +41,9 @@ fn with_cr(alloc: Global, text: &str) -> Result<String, OutOfMemory> {
 }
 
 // An empty shelf with room for so many bytes of data, to which a call moves at most so many.
-fn empty_shelf(alloc: Global, room: usize, most: usize) -> Result<MemShelf, OutOfMemory> {
+fn empty_shelf(alloc: Global, room: usize, most: usize) -> Result<MemShelf, OutOfMemory>
+    requires { 1 ≤ most }
+{
     let mut shelf = MemShelf::new(alloc);
     shelf.room("C", 1000)?;
     shelf.room("D", room)?;
@@ -53,27 +60,32 @@ fn next_shelf(alloc: Global, shelf: &MemShelf, job: &str) -> Result<MemShelf, Ou
     Ok(next)
 }
 
+// Whether a second is generated where an append takes so many bytes at most, and what is generated is accepted.
+fn is_generated<R: Threads + Sync>(rt: &R, alloc: Global, most: usize) -> Result<bool, OutOfMemory>
+    requires { 1 ≤ most }
+{
+    let configuration = with_cr(alloc, CONFIGURATION)?;
+    let mut shelf = empty_shelf(alloc, 100_000, most)?;
+    let (status, text) = answer_of(rt, alloc, &mut shelf, "gen 1 1 C D")?;
+    let mut next = next_shelf(alloc, &shelf, "")?;
+    let (checked, summary) = answer_of(rt, alloc, &mut next, "check C D")?;
+    Ok(
+        status == 0
+            && text.as_slice() == SUMMARY.as_bytes()
+            && shelf.added("C") == configuration.as_bytes()
+            && shelf.added("D").starts_with(FIRST.as_bytes())
+            && shelf.added("D").ends_with(LAST.as_bytes())
+            && shelf.faults() == 0
+            && checked == 0
+            && summary.as_slice() == CHECKED.as_bytes(),
+    )
+}
+
 #[test]
 fn a_generated_second(rt: HostRuntime) -> Result<(), Fail> {
-    let alloc = rt.alloc();
-    let configuration = with_cr(alloc, CONFIGURATION)?;
-    for most in [65_536, 1000, 7] {
-        let mut shelf = empty_shelf(alloc, 100_000, most)?;
-        let (status, text) = answer_of(&rt, alloc, &mut shelf, "gen 1 1 C D")?;
-        assert_eq!(rt; status, 0);
-        assert_eq!(rt; text.as_slice(), SUMMARY.as_bytes());
-        assert_eq!(rt; shelf.added("C"), configuration.as_bytes());
-        assert!(rt; shelf.added("D").starts_with(FIRST.as_bytes()));
-        assert!(rt; shelf.added("D").ends_with(LAST.as_bytes()));
-        assert_eq!(rt; shelf.faults(), 0);
-        let mut next = next_shelf(alloc, &shelf, "")?;
-        let (status, text) = answer_of(&rt, alloc, &mut next, "check C D")?;
-        assert_eq!(rt; status, 0);
-        assert_eq!(rt;
-            text.as_slice(),
-            b"check\nanalog 3 digital 0\nrecords 2400\nfirst 1\nform ASCII\n".as_slice()
-        );
-    }
+    assert!(rt; is_generated(&rt, rt.alloc(), 65_536)?);
+    assert!(rt; is_generated(&rt, rt.alloc(), 1000)?);
+    assert!(rt; is_generated(&rt, rt.alloc(), 7)?);
     Ok(())
 }
 
@@ -97,32 +109,43 @@ fn words_that_generate_nothing(rt: HostRuntime) -> Result<(), Fail> {
     Ok(())
 }
 
-// Each append of a generated second fails in turn: nothing is written, and what was appended is a front of what was to
-// come.
+// Whether each name has a front of what it has on the other shelf, the data none unless the configuration is whole.
+fn is_begun(shelf: &MemShelf, whole: &MemShelf) -> bool {
+    whole.added("C").starts_with(shelf.added("C"))
+        && whole.added("D").starts_with(shelf.added("D"))
+        && (shelf.added("D").is_empty() || shelf.added("C") == whole.added("C"))
+}
+
+// How many appends of a generated second failed, each in a run of its own, until it made no more. Nothing was written.
+fn failed_appends<R: Threads + Sync>(
+    rt: &R,
+    alloc: Global,
+    whole: &MemShelf,
+) -> Result<Option<u64>, OutOfMemory> {
+    for call in 1..100 {
+        let mut shelf = empty_shelf(alloc, 100_000, 4096)?;
+        shelf.fail_at(call)?;
+        let (status, text) = answer_of(rt, alloc, &mut shelf, "gen 1 1 C D")?;
+        if status == 0 {
+            return Ok(Some(call - 1));
+        }
+        if status != 5 || shelf.faults() != 1 || !text.is_empty() || !is_begun(&shelf, whole) {
+            return Ok(None);
+        }
+    }
+    Ok(None)
+}
+
+// One append takes the configuration, and the others 4096 bytes of the data at most.
 #[test]
 fn each_append_fails(rt: HostRuntime) -> Result<(), Fail> {
     let alloc = rt.alloc();
     let mut whole = empty_shelf(alloc, 100_000, 4096)?;
     let (status, _) = answer_of(&rt, alloc, &mut whole, "gen 1 1 C D")?;
     assert_eq!(rt; status, 0);
-    let mut call = 1;
-    let mut reached = 0;
-    while reached < whole.added("D").len() && call < 100 {
-        let mut shelf = empty_shelf(alloc, 100_000, 4096)?;
-        shelf.fail_at(call)?;
-        let (status, text) = answer_of(&rt, alloc, &mut shelf, "gen 1 1 C D")?;
-        reached = shelf.added("D").len();
-        if reached < whole.added("D").len() {
-            assert_eq!(rt; (status, shelf.faults()), (5, 1));
-            assert!(rt; text.is_empty());
-            assert!(rt; whole.added("C").starts_with(shelf.added("C")));
-            assert!(rt; whole.added("D").starts_with(shelf.added("D")));
-            assert!(rt; reached == 0 || shelf.added("C") == whole.added("C"));
-        }
-        call += 1;
-    }
-    // The configuration takes one append, and each piece of 4096 bytes one; the call after them is never made.
-    assert!(rt; call > 20 && call < 100);
+    let appends = whole.added("D").len() as u64 / 4096;
+    let failed = failed_appends(&rt, alloc, &whole)?;
+    assert!(rt; failed.unwrap_or(0) > appends);
     Ok(())
 }
 
