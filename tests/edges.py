@@ -322,6 +322,7 @@ def generated(table, calls):
             return
         right, summary = made_in(folder), (status, text)
     gen_names(table)
+    gen_old_files(table, right, summary)
     gen_output(table, right)
     for kind, turned, what, answer in (("w", EIO, "append or write fails", "5, fronts in both files, nothing printed unless both are whole"),
                                        ("o", EIO, "open fails", "5, fronts in both files, nothing printed"),
@@ -358,6 +359,30 @@ def gen_names(table):
         with tempfile.TemporaryDirectory(dir=table.folder) as folder:
             row.case("%r" % words[3:], run(table, words, folder), USAGE)
             row.holds("files", os.listdir(folder) == [])
+
+
+def gen_old_files(table, right, summary):
+    old = b"old" * 100_000
+    row = table.row("`gen`: longer old files under both names, and a name that can't be written", "both files new; or 5, and the file that isn't reached is the old one")
+    for place, name, left in ((3, "made.cfg", None), (3, "/dev/full", [None, old]), (4, "/dev/full", [right[0], old])):
+        with tempfile.TemporaryDirectory(dir=table.folder) as folder:
+            for made in MADE[3:]:
+                with open(os.path.join(folder, made), "wb") as file:
+                    file.write(old)
+            words = [name if i == place else word for i, word in enumerate(MADE)]
+            row.case("%d %s" % (place, name), run(table, words, folder), (5, b"") if left else summary)
+            now = made_in(folder)
+            row.holds("files", now == right if left is None else now[1] == left[1] and now[0] == (left[0] or old))
+    row = table.row("`gen`: two spellings of one file, by `./`, a link or a second name", "the whole text, and the data alone in the file")
+    for link in (None, os.symlink, os.link):
+        with tempfile.TemporaryDirectory(dir=table.folder) as folder:
+            path, other = os.path.join(folder, "made.cfg"), "./made.cfg"
+            if link:
+                open(path, "wb").close()
+                other = "other.dat"
+                link(path, os.path.join(folder, other))
+            row.case("%r" % link, run(table, MADE[:4] + [other], folder), summary)
+            row.holds("file", content(path) == right[1])
 
 
 def gen_output(table, right):

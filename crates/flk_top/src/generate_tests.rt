@@ -1,8 +1,12 @@
 ghost use Rattle.std.specs.Prelude.{◌≤◌};
 
-use crate::report_tests::answer_of;
-use flk_io::{MemShelf, OutOfMemory};
+use crate::hostile_tests::front;
+use crate::report_tests::{Meeting, answer_of, short_job};
+use crate::run;
+use crate::tests::{Open, words_of};
+use flk_io::{MemShelf, MemSink, OutOfMemory};
 use std::alloc::Global;
+use std::sync::atomic::{AtomicBool, AtomicU32, Ordering};
 use std::test::Fail;
 use std::thread::Threads;
 
@@ -149,6 +153,43 @@ fn each_append_fails(rt: HostRuntime) -> Result<(), Fail> {
     Ok(())
 }
 
+// The first append of the data fails: the configuration is whole.
+#[test]
+fn the_second_append_fails(rt: HostRuntime) -> Result<(), Fail> {
+    let alloc = rt.alloc();
+    let configuration = with_cr(alloc, CONFIGURATION)?;
+    let mut shelf = empty_shelf(alloc, 100_000, 4096)?;
+    shelf.fail_at(2)?;
+    let (status, text) = answer_of(&rt, alloc, &mut shelf, "gen 1 1 C D")?;
+    assert_eq!(rt; (status, shelf.faults()), (5, 1));
+    assert!(rt; text.is_empty());
+    assert_eq!(rt; shelf.added("C"), configuration.as_bytes());
+    assert!(rt; shelf.added("D").is_empty());
+    Ok(())
+}
+
+// The summary has 41 bytes, which are written 16 at a time. Both files are whole, and what was written before stands.
+#[test]
+fn each_write_of_the_summary_fails(rt: HostRuntime) -> Result<(), Fail> {
+    let alloc = rt.alloc();
+    let words = words_of(alloc, "gen 1 1 C D")?;
+    let mut whole = empty_shelf(alloc, 100_000, 65_536)?;
+    let (status, text) = answer_of(&rt, alloc, &mut whole, "gen 1 1 C D")?;
+    assert_eq!(rt; (status, text.len()), (0, 41));
+    for call in 0..3usize {
+        let mut shelf = empty_shelf(alloc, 100_000, 65_536)?;
+        let mut sink = MemSink::new(alloc, 100, 16)?;
+        sink.fail_at(call as u64 + 1)?;
+        let answered = run(&rt, alloc, &words, &mut shelf, &mut sink, &Open);
+        assert_eq!(rt; answered, 5, "{call}");
+        assert_eq!(rt; sink.written(), front(&text, 16 * call), "{call}");
+        assert_eq!(rt; (shelf.faults(), sink.faults()), (0, 1));
+        assert_eq!(rt; shelf.added("C"), whole.added("C"));
+        assert_eq!(rt; shelf.added("D"), whole.added("D"));
+    }
+    Ok(())
+}
+
 // No place is left under the second name: the configuration is whole.
 #[test]
 fn no_place_for_the_data(rt: HostRuntime) -> Result<(), Fail> {
@@ -184,6 +225,27 @@ fn a_generated_report(rt: HostRuntime) -> Result<(), Fail> {
         }
         assert!(rt; text.as_slice() == first.as_slice(), "{line}");
     }
+    Ok(())
+}
+
+// Two channels of a generated second are worked at the same time.
+#[test]
+fn two_generated_channels_meet(rt: HostRuntime) -> Result<(), Fail> {
+    let alloc = rt.alloc();
+    let mut shelf = empty_shelf(alloc, 100_000, 65_536)?;
+    let (status, _) = answer_of(&rt, alloc, &mut shelf, "gen 1 1 C D")?;
+    assert_eq!(rt; status, 0);
+    let job = short_job(alloc, "channels = [1]", "channels = [1, 2]")?;
+    let mut next = next_shelf(alloc, &shelf, job.as_str())?;
+    let words = words_of(alloc, "report J C D 2")?;
+    let mut sink = MemSink::new(alloc, 4000, 500)?;
+    let gate = Meeting {
+        entered: [AtomicBool::new(false), AtomicBool::new(false)],
+        met: AtomicU32::new(0),
+    };
+    let answered = run(&rt, alloc, &words, &mut next, &mut sink, &gate);
+    assert!(rt; answered != 2 && answered < 4);
+    assert_eq!(rt; gate.met.load(Ordering::SeqCst), 2);
     Ok(())
 }
 

@@ -29,7 +29,7 @@ fn is_fault<R: Threads + Sync>(
 // ---- files that are cut
 
 // The first bytes of a file, or all where it has no more.
-fn front(bytes: &[u8], count: usize) -> &[u8] {
+pub fn front(bytes: &[u8], count: usize) -> &[u8] {
     bytes.get(..count).unwrap_or(bytes)
 }
 

@@ -382,9 +382,9 @@ fn a_record_that_is_cut_off(rt: HostRuntime) -> Result<(), Fail> {
 
 // Holds each of two phases until the other was entered.
 #[derive(Drop)]
-struct Meeting {
-    entered: [AtomicBool; 2],
-    met: AtomicU32,
+pub struct Meeting {
+    pub entered: [AtomicBool; 2],
+    pub met: AtomicU32,
 }
 
 impl Gate for Meeting {
