@@ -3,11 +3,11 @@
 use std::hint::black_box;
 
 /// The numbers of a filter.
-pub struct Filter {
+pub(crate) struct Filter {
     /// The coefficients b0, b1, b2, a1, a2 over 2^32 of each section.
-    sections: [[i64; 5]; 7],
+    pub sections: [[i64; 5]; 7],
     /// The input over 2^32 and the rounding of the first section's gain, and of the bound of the others in a row.
-    bounds: [(i128, i128); 2],
+    pub bounds: [(i128, i128); 2],
 }
 
 /// The lamp 230/50 at 2400 and at 4800 samples a second, and the lamp 120/60 at both. These are the numbers that `flicker tables` prints:
@@ -96,14 +96,19 @@ pub struct Cascade {
     radius: i128,
 }
 
-fn radius_of(bounds: &[(i128, i128); 2], greatest: i128) -> i128 {
+pub(crate) fn radius_of(bounds: &[(i128, i128); 2], greatest: i128) -> i128 {
     bounds.iter().fold(greatest, |r, (input, rounding)| -((-(r * input)) >> 32) + rounding)
+}
+
+/// The filter of the lamp of a frequency, 50 or 60, at a rate, 2400 or 4800.
+pub(crate) fn filter_of(hertz: u32, rate: u32) -> &'static Filter {
+    &FILTERS[usize::from(hertz == 60)][usize::from(rate == 4800)]
 }
 
 impl Cascade {
     /// The filter of the lamp of a frequency, 50 or 60, at a rate, 2400 or 4800.
     pub fn new(hertz: u32, rate: u32) -> Cascade {
-        let filter = &FILTERS[usize::from(hertz == 60)][usize::from(rate == 4800)];
+        let filter = filter_of(hertz, rate);
         // The compiler is not to make a program of these seven sections alone.
         let mut sections = black_box(filter.sections).map(|k| Section { k: k.map(|b| b << 29), s1: 0, s2: 0 });
         sections[0].s1 = -65536 * filter.sections[0][0];

@@ -1,9 +1,9 @@
 //! Steady windows, and dc, dmax and Tmax.
 
-const STEADY_LIMIT: i64 = 4_000_000;
+pub(crate) const STEADY_LIMIT: i64 = 4_000_000;
 const EXCESS_LIMIT: i64 = 33_000_000;
-const ZERO: Interval = Interval { lo: 0, hi: 0 };
-const NOMINAL: Interval = Interval { lo: 1_000_000_000, hi: 1_000_000_000 };
+pub(crate) const ZERO: Interval = Interval { lo: 0, hi: 0 };
+pub(crate) const NOMINAL: Interval = Interval { lo: 1_000_000_000, hi: 1_000_000_000 };
 
 #[derive(Clone, Copy)]
 pub struct Interval {
@@ -12,7 +12,7 @@ pub struct Interval {
 }
 
 impl Interval {
-    fn distance(self, other: Interval) -> Interval {
+    pub(crate) fn distance(self, other: Interval) -> Interval {
         Interval {
             lo: 0.max((self.lo - other.hi).max(other.lo - self.hi)),
             hi: (self.hi - other.lo).max(other.hi - self.lo),
@@ -43,8 +43,10 @@ pub struct Outcome {
     pub t: Interval,
 }
 
+pub(crate) const NOTHING: Outcome = Outcome { dc: ZERO, dmax: ZERO, t: ZERO };
+
 impl Outcome {
-    fn with_change(self, step: Interval, halves: &[Interval], level: Interval) -> Outcome {
+    pub(crate) fn with_change(self, step: Interval, halves: &[Interval], level: Interval) -> Outcome {
         let (mut furthest, mut over) = (ZERO, ZERO);
         for half in halves {
             let away = half.distance(level);
@@ -82,7 +84,7 @@ pub fn flag_of(halves: &[Interval], window: usize) -> Flag {
 
 // One pass, in which the lowest digit of `choices` says whether the next doubtful window is steady.
 fn outcome_of(halves: &[Interval], flags: &[Flag], window: usize, mut choices: u32) -> Outcome {
-    let mut outcome = Outcome { dc: ZERO, dmax: ZERO, t: ZERO };
+    let mut outcome = NOTHING;
     let (mut last, mut before) = (0, NOMINAL);
     let (mut low, mut high) = (0, 0);
     for (i, (half, flag)) in halves.iter().zip(flags).enumerate() {
@@ -116,7 +118,7 @@ fn outcome_of(halves: &[Interval], flags: &[Flag], window: usize, mut choices: u
     outcome.with_change(ZERO, &halves[last..], before)
 }
 
-fn wide(halves: &[Interval]) -> Outcome {
+pub(crate) fn wide(halves: &[Interval]) -> Outcome {
     let all = halves.iter().fold(halves[0], |all, half| all.hull(*half));
     let width = all.hi - all.lo;
     Outcome {
@@ -126,13 +128,16 @@ fn wide(halves: &[Interval]) -> Outcome {
     }
 }
 
+/// What holds each of some outcomes.
+pub(crate) fn joined(all: impl Iterator<Item = Outcome>) -> Outcome {
+    all.reduce(|p, q| Outcome { dc: p.dc.hull(q.dc), dmax: p.dmax.hull(q.dmax), t: p.t.hull(q.t) }).unwrap()
+}
+
 /// The changes of half-periods with the flags of their windows, and how many flags are Doubtful.
 pub fn changes(halves: &[Interval], flags: &[Flag], window: usize) -> (Outcome, usize) {
     let doubtful = flags.iter().filter(|flag| **flag == Flag::Doubtful).count();
     if doubtful > 6 {
         return (wide(halves), doubtful);
     }
-    let all = (0..1 << doubtful).map(|choices| outcome_of(halves, flags, window, choices));
-    let joined = |p: Outcome, q: Outcome| Outcome { dc: p.dc.hull(q.dc), dmax: p.dmax.hull(q.dmax), t: p.t.hull(q.t) };
-    (all.reduce(joined).unwrap(), doubtful)
+    (joined((0..1 << doubtful).map(|choices| outcome_of(halves, flags, window, choices))), doubtful)
 }

@@ -8,12 +8,12 @@ const FIELDS: u8 = 1;
 const NUMBER: u8 = 2;
 const RANGE: u8 = 3;
 const ORDER: u8 = 4;
-const SHORT: u8 = 5;
-const LONG: u8 = 6;
+pub(crate) const SHORT: u8 = 5;
+pub(crate) const LONG: u8 = 6;
 const MISSING: u8 = 7;
 const LENGTH: u8 = 8;
 
-const PIECE: usize = 65_536;
+pub(crate) const PIECE: usize = 65_536;
 const LONGEST_LINE: usize = 16_384;
 const LONGEST_TAIL: usize = 65_536;
 
@@ -38,15 +38,34 @@ pub struct Record<'a> {
     pub analog: &'a [i32],
 }
 
-struct Reader<'a> {
-    records: u32,
-    selected: &'a [bool],
-    digital: usize,
-    before: Option<u32>,
+/// What is read of a file so far.
+pub(crate) struct Reader {
+    pub records: u32,
+    selected: Vec<bool>,
+    pub digital: usize,
+    /// The number of the record before.
+    pub before: Option<u32>,
     analog: Vec<i32>,
 }
 
-impl Reader<'_> {
+impl Reader {
+    /// A missing value is a fault in the selected channels, from 0.
+    pub fn new(config: &Config, selected: &[usize]) -> Reader {
+        let channels = config.analog.len();
+        Reader {
+            records: config.endsamp as u32,
+            selected: (0..channels).map(|i| selected.contains(&i)).collect(),
+            digital: config.digital.len(),
+            before: None,
+            analog: vec![0; channels],
+        }
+    }
+
+    /// The bytes of a BINARY record.
+    pub fn size(&self) -> usize {
+        8 + 2 * self.selected.len() + 2 * self.digital.div_ceil(16)
+    }
+
     fn follows(&mut self, number: u32) -> bool {
         let follows = self.before.is_none_or(|before| number.checked_sub(1) == Some(before));
         self.before = Some(number);
@@ -54,13 +73,13 @@ impl Reader<'_> {
     }
 
     /// Reads the fields of a record.
-    fn binary(&mut self, bytes: &[u8]) -> Result<Record<'_>, (usize, u8)> {
+    pub fn binary(&mut self, bytes: &[u8]) -> Result<Record<'_>, (usize, u8)> {
         let number = u32::from_le_bytes(bytes[..4].try_into().unwrap());
         if !self.follows(number) {
             return Err((1, ORDER));
         }
         let values = bytes[8..].chunks_exact(2).map(|b| i16::from_le_bytes([b[0], b[1]]));
-        for (i, ((to, value), selected)) in self.analog.iter_mut().zip(values).zip(self.selected).enumerate() {
+        for (i, ((to, value), selected)) in self.analog.iter_mut().zip(values).zip(&self.selected).enumerate() {
             if *selected && value == i16::MIN {
                 return Err((i + 3, MISSING));
             }
@@ -124,7 +143,7 @@ fn without_cr(line: &[u8]) -> &[u8] {
 }
 
 fn read_binary(file: &mut BufReader<File>, reader: &mut Reader, mut take: impl FnMut(Record) -> bool) -> Result<(), Stop> {
-    let size = 8 + 2 * reader.selected.len() + 2 * reader.digital.div_ceil(16);
+    let size = reader.size();
     let (mut piece, mut held) = (vec![0; PIECE], 0);
     let mut row = 0;
     loop {
@@ -150,46 +169,59 @@ fn read_binary(file: &mut BufReader<File>, reader: &mut Reader, mut take: impl F
     }
 }
 
-fn read_ascii(file: &mut BufReader<File>, reader: &mut Reader, mut take: impl FnMut(Record) -> bool) -> Result<(), Stop> {
-    let mut line = Vec::with_capacity(LONGEST_LINE + 2);
-    let mut tail = Vec::new();
-    for row in 1..=reader.records {
+/// A line of an ASCII file, and what follows the last record.
+pub(crate) struct Lines {
+    line: Vec<u8>,
+    tail: Vec<u8>,
+}
+
+impl Lines {
+    pub fn new() -> Lines {
+        Lines { line: Vec::with_capacity(LONGEST_LINE + 2), tail: Vec::new() }
+    }
+
+    /// Reads the record of a row, from 1.
+    pub fn record<'a>(&mut self, file: &mut impl BufRead, reader: &'a mut Reader, row: u32) -> Result<Record<'a>, Stop> {
+        let line = &mut self.line;
         line.clear();
-        file.by_ref().take(LONGEST_LINE as u64 + 2).read_until(b'\n', &mut line)?;
+        file.by_ref().take(LONGEST_LINE as u64 + 2).read_until(b'\n', line)?;
         let mut end = line.len();
         if row == reader.records {
             end = line.iter().position(|b| *b == 0x1a).unwrap_or(end);
-            tail.extend_from_slice(&line[end..]);
+            self.tail.extend_from_slice(&line[end..]);
         }
         let ended = line[..end].ends_with(b"\n") || end < line.len();
         let text = line[..end].strip_suffix(b"\n").unwrap_or(&line[..end]);
         if !ended && end <= LONGEST_LINE && text.iter().all(|b| *b == b' ') {
             return Err(Stop::Fault(row, 0, SHORT));
         }
-        let record = reader.line(without_cr(text)).map_err(|(field, kind)| Stop::Fault(row, field, kind))?;
-        if !take(record) {
+        reader.line(without_cr(text)).map_err(|(field, kind)| Stop::Fault(row, field, kind))
+    }
+
+    /// Reads what follows the last record.
+    pub fn end(mut self, file: &mut impl BufRead, records: u32) -> Result<(), Stop> {
+        file.by_ref().take(LONGEST_TAIL as u64 + 1).read_to_end(&mut self.tail)?;
+        let marks = self.tail.iter().filter(|b| **b == 0x1a).count();
+        if self.tail.len() > LONGEST_TAIL || marks > 1 || self.tail.iter().any(|b| !matches!(b, b'\r' | b'\n' | b' ' | 0x1a)) {
+            return Err(Stop::Fault(records.saturating_add(1), 0, LONG));
+        }
+        Ok(())
+    }
+}
+
+fn read_ascii(file: &mut BufReader<File>, reader: &mut Reader, mut take: impl FnMut(Record) -> bool) -> Result<(), Stop> {
+    let mut lines = Lines::new();
+    for row in 1..=reader.records {
+        if !take(lines.record(file, reader, row)?) {
             return Err(Stop::Refused(row));
         }
     }
-    file.by_ref().take(LONGEST_TAIL as u64 + 1).read_to_end(&mut tail)?;
-    let marks = tail.iter().filter(|b| **b == 0x1a).count();
-    if tail.len() > LONGEST_TAIL || marks > 1 || tail.iter().any(|b| !matches!(b, b'\r' | b'\n' | b' ' | 0x1a)) {
-        return Err(Stop::Fault(reader.records.saturating_add(1), 0, LONG));
-    }
-    Ok(())
+    lines.end(file, reader.records)
 }
 
 /// Reads the data of a configuration, and hands each record over. A missing value is a fault in these channels, from 0.
 pub fn read_data(name: &str, config: &Config, selected: &[usize], take: impl FnMut(Record) -> bool) -> Result<(), Stop> {
-    let channels = config.analog.len();
-    let selected: Vec<bool> = (0..channels).map(|i| selected.contains(&i)).collect();
-    let mut reader = Reader {
-        records: config.endsamp as u32,
-        selected: &selected,
-        digital: config.digital.len(),
-        before: None,
-        analog: vec![0; channels],
-    };
+    let mut reader = Reader::new(config, selected);
     let mut file = BufReader::with_capacity(PIECE, File::open(name)?);
     if config.binary {
         read_binary(&mut file, &mut reader, take)

@@ -2,9 +2,11 @@
 
 pub mod cascade;
 pub mod changes;
+pub mod command;
 pub mod configuration;
 pub mod cutter;
 pub mod data;
+pub mod fast;
 pub mod front;
 pub mod job;
 pub mod phase;

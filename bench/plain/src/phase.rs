@@ -20,6 +20,12 @@ pub struct Quantities {
     pub plt: Option<Interval>,
 }
 
+/// The long-term severity, where there are twelve short-term ones.
+pub(crate) fn long_term_of(pst: &[Interval]) -> Option<Interval> {
+    let end = |end: fn(&Interval) -> i64| long_term(pst.iter().map(|v| end(v) as u64)) as i64;
+    (pst.len() == 12).then(|| Interval { lo: end(|v| v.lo), hi: end(|v| v.hi) })
+}
+
 /// Works the samples of one channel.
 pub struct Phase {
     scale: Scale,
@@ -111,14 +117,12 @@ impl Phase {
 
     pub fn end(&self) -> Quantities {
         let (changes, doubtful) = changes(&self.halves, &self.flags, self.window);
-        let plt = |end: fn(&Interval) -> i64| long_term(self.pst.iter().map(|v| end(v) as u64)) as i64;
-        let twelve = self.pst.len() == 12;
         Quantities {
             halves: self.halves.len(),
             doubtful,
             changes,
             pst: self.pst.clone(),
-            plt: twelve.then(|| Interval { lo: plt(|v| v.lo), hi: plt(|v| v.hi) }),
+            plt: long_term_of(&self.pst),
         }
     }
 }

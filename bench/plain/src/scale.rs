@@ -6,20 +6,20 @@ const TEN_TO_24: i128 = 1_000_000_000_000_000_000_000_000;
 
 /// A quotient, rounded down, and the rest over the divisor.
 #[derive(Clone, Copy)]
-struct Parts {
-    quotient: i128,
-    rest: i128,
+pub(crate) struct Parts {
+    pub quotient: i128,
+    pub rest: i128,
 }
 
 /// The scale of a channel: products of samples with one quotient, and what they are added to.
 pub struct Scale {
-    divisor: i128,
-    step: Parts,
+    pub(crate) divisor: i128,
+    pub(crate) step: Parts,
     share: u64,
-    low: Parts,
-    high: Parts,
-    within: (i64, i64),
-    negative: (i64, i64),
+    pub(crate) low: Parts,
+    pub(crate) high: Parts,
+    pub(crate) within: (i64, i64),
+    pub(crate) negative: (i64, i64),
 }
 
 /// What a configuration lacks for a measurement: the kind and two numbers.
@@ -80,6 +80,14 @@ impl Scale {
             within: samples_between(a, b, -4 * divisor, 4 * divisor),
             negative: samples_between(a, b, -(1 << 125), -1),
         })
+    }
+
+    /// The quotient of a sample, where that of the least one is known.
+    pub(crate) fn at(&self, x: i32, least: Parts) -> Parts {
+        let index = i128::from(x) + (1 << 31);
+        let rest = least.rest + index * self.step.rest;
+        let quotient = least.quotient + index * self.step.quotient + rest / self.divisor;
+        Parts { quotient, rest: rest % self.divisor }
     }
 
     /// Whether the voltage is negative, and its interval; None where it is over range.

@@ -1,6 +1,6 @@
 //! The short-term and the long-term severity, in billionths.
 
-const SHARES: [(usize, u128); 15] = [
+pub(crate) const SHARES: [(usize, u128); 15] = [
     (1, 942),
     (7, 525),
     (10, 525),
@@ -20,12 +20,12 @@ const SHARES: [(usize, u128); 15] = [
 
 const CAP: u64 = 1_000_000_000_000;
 
-fn rank(tenths: usize, n: usize) -> usize {
+pub(crate) fn rank(tenths: usize, n: usize) -> usize {
     (tenths * n).div_ceil(1000)
 }
 
 // The least whole number of billionths whose square reaches the weighted sum.
-fn capped_root(sum: u128) -> u64 {
+pub(crate) fn capped_root(sum: u128) -> u64 {
     // Then the root is above the cap, and the product might not fit.
     if sum >> 94 != 0 {
         return CAP;
@@ -38,8 +38,8 @@ fn capped_root(sum: u128) -> u64 {
 
 /// The ends of the levels of one interval: those below 2^64, and the others.
 pub struct Ends {
-    narrow: Vec<u64>,
-    wide: Vec<i128>,
+    pub(crate) narrow: Vec<u64>,
+    pub(crate) wide: Vec<i128>,
 }
 
 impl Ends {

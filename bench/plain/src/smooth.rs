@@ -4,9 +4,9 @@ const SCALE: u128 = 310_700;
 
 /// The level's two ends. Each moves by a part of what is between it and the square.
 pub struct Smooth {
-    share: i128,
-    low: u128,
-    high: u128,
+    pub(crate) share: i128,
+    pub(crate) low: u128,
+    pub(crate) high: u128,
 }
 
 impl Smooth {
