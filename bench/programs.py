@@ -43,11 +43,17 @@ def built():
     return program
 
 
-def plain(folder, name):
-    """The path of a plain Rust program, built under a folder."""
+def plains(folder, names):
+    """The paths of plain Rust programs, built under a folder."""
     target = os.path.join(folder, "target")
-    subprocess.run(["cargo", "build", "--release", "--quiet", "--offline", "--target-dir", target], cwd=PLAIN, check=True)
-    return os.path.join(target, "release", name)
+    words = ["cargo", "build", "--release", "--quiet", "--offline", "--target-dir", target]
+    subprocess.run(words + [word for name in names for word in ("--bin", name)], cwd=PLAIN, check=True)
+    return [os.path.join(target, "release", name) for name in names]
+
+
+def plain(folder, name):
+    """The path of one of them."""
+    return plains(folder, [name])[0]
 
 
 def below(names):

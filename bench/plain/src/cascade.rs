@@ -3,11 +3,11 @@
 use std::hint::black_box;
 
 /// The numbers of a filter.
-pub(crate) struct Filter {
+pub struct Filter {
     /// The coefficients b0, b1, b2, a1, a2 over 2^32 of each section.
     pub sections: [[i64; 5]; 7],
     /// The input over 2^32 and the rounding of the first section's gain, and of the bound of the others in a row.
-    pub bounds: [(i128, i128); 2],
+    pub(crate) bounds: [(i128, i128); 2],
 }
 
 /// The lamp 230/50 at 2400 and at 4800 samples a second, and the lamp 120/60 at both. These are the numbers that `flicker tables` prints:
@@ -101,7 +101,7 @@ pub(crate) fn radius_of(bounds: &[(i128, i128); 2], greatest: i128) -> i128 {
 }
 
 /// The filter of the lamp of a frequency, 50 or 60, at a rate, 2400 or 4800.
-pub(crate) fn filter_of(hertz: u32, rate: u32) -> &'static Filter {
+pub fn filter_of(hertz: u32, rate: u32) -> &'static Filter {
     &FILTERS[usize::from(hertz == 60)][usize::from(rate == 4800)]
 }
 

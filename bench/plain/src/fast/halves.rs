@@ -40,20 +40,29 @@ impl Halves {
         Halves { half, since: 0, negative: false, least: 0, greatest: 0, values: Vec::new() }
     }
 
-    #[cold]
     fn end(&mut self) {
         self.values.push(Interval { lo: value(self.least, self.half), hi: value(self.greatest, self.half) });
         (self.since, self.least, self.greatest) = (0, 0, 0);
     }
 
-    /// Takes the next sample: whether its voltage is negative, and the least and the greatest square of the voltage's interval.
-    #[inline(always)]
-    pub fn push(&mut self, negative: bool, least: u128, greatest: u128) {
-        if self.since == 2 * self.half || (self.half <= 2 * self.since && negative != self.negative) {
+    /// How many of the next samples, of which there is one, belong to the half-period that the first of them belongs to. Those within the range have negative
+    /// voltages. Where the first of them begins a half-period, the one before ends.
+    pub fn room(&mut self, samples: &[i32], (first, last): (i32, i32)) -> usize {
+        let negative = |place: usize| first <= samples[place] && samples[place] <= last;
+        let changes = self.half <= 2 * self.since && negative(0) != self.negative;
+        if self.since == 2 * self.half || changes {
             self.end();
         }
-        self.since += 1;
-        self.negative = negative;
+        let most = samples.len().min(2 * self.half - self.since);
+        let from = (self.half.div_ceil(2).saturating_sub(self.since)).max(1);
+        let room = (from..most).find(|place| negative(*place) != negative(place - 1)).unwrap_or(most);
+        self.negative = negative(room - 1);
+        room
+    }
+
+    /// Adds the sums of the least and of the greatest squares of so many samples.
+    pub fn add(&mut self, count: usize, (least, greatest): (u128, u128)) {
+        self.since += count;
         self.least += least;
         self.greatest += greatest;
     }

@@ -32,10 +32,10 @@ fn separators(bytes: &[u8; 64]) -> u64 {
 }
 
 /// The digits that a word of eight bytes holds in its last `length` ones, the last digit in the highest byte and zeros before them; None
-/// where one of these bytes isn't a digit. The bytes before are shifted out. A byte of a digit is at most 9, and then 0x76 more doesn't
+/// where one of these bytes isn't a digit. A byte of a digit is at most 9, and then 0x76 more doesn't
 /// reach its highest bit; no sum carries where all of them lack that bit.
 fn digits(word: u64, length: usize) -> Option<u64> {
-    let digits = (word ^ ZEROS) << (64 - 8 * length);
+    let digits = (word ^ ZEROS) & (u64::MAX << (64 - 8 * length));
     let odd = (digits.wrapping_add(0x7676_7676_7676_7676) | digits) & 0x8080_8080_8080_8080;
     (odd == 0).then_some(digits)
 }

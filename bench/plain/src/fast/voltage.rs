@@ -24,10 +24,10 @@ struct Ends {
 /// parts carry where they reach the divisor together.
 pub struct Voltage {
     divisor: i128,
-    upper: Vec<Ends>,
-    lower: Vec<Short>,
-    upper_rests: Vec<(i128, i128)>,
-    lower_rests: Vec<i128>,
+    upper: Box<[Ends; 1024]>,
+    lower: Box<[Short; 256]>,
+    upper_rests: Box<[(i128, i128); 1024]>,
+    lower_rests: Box<[i128; 256]>,
     within: (i32, i32),
     negative: (i32, i32),
 }
@@ -43,6 +43,10 @@ fn plus(parts: Parts, step: Parts, divisor: i128) -> Parts {
     let (quotient, rest) = (parts.quotient.wrapping_add(step.quotient), parts.rest + step.rest);
     let carry = rest >= divisor;
     Parts { quotient: quotient + i128::from(carry), rest: if carry { rest - divisor } else { rest } }
+}
+
+fn boxed<T, const N: usize>(entries: impl Iterator<Item = T>) -> Box<[T; N]> {
+    entries.collect::<Vec<T>>().try_into().ok().unwrap()
 }
 
 fn table(first: Parts, step: Parts, divisor: i128, count: usize) -> Vec<Parts> {
@@ -66,10 +70,10 @@ impl Voltage {
         let ends = lows.iter().zip(&highs);
         Voltage {
             divisor,
-            upper: ends.clone().map(|(low, high)| Ends { low: short(*low, divisor), high: short(*high, divisor) }).collect(),
-            lower: lower[..256].iter().map(|parts| short(*parts, divisor)).collect(),
-            upper_rests: ends.map(|(low, high)| (low.rest, high.rest)).collect(),
-            lower_rests: lower[..256].iter().map(|parts| parts.rest).collect(),
+            upper: boxed(ends.clone().map(|(low, high)| Ends { low: short(*low, divisor), high: short(*high, divisor) })),
+            lower: boxed(lower[..256].iter().map(|parts| short(*parts, divisor))),
+            upper_rests: boxed(ends.map(|(low, high)| (low.rest, high.rest))),
+            lower_rests: boxed(lower[..256].iter().map(|parts| parts.rest)),
             within: narrow(scale.within),
             negative: narrow(scale.negative),
         }
@@ -105,18 +109,29 @@ impl Voltage {
         (low, high)
     }
 
-    /// Hands the squares of samples in range over to the half-periods, and writes down the least rounded down and the greatest rounded up, in
-    /// units of 2^-48. Of all numbers from low to high the least size is the greatest of low, -high and 0, and the greatest size
-    /// that of high and -low.
-    pub fn squares(&self, samples: &[i32], halves: &mut Halves, least: &mut [u64], greatest: &mut [u64]) {
-        let (first, last) = self.negative;
+    /// Writes down the least squares of samples rounded down and the greatest rounded up, in units of 2^-48, and answers the sums of both.
+    /// Of all numbers from low to high the least size is the greatest of low, -high and 0, and the greatest size that of high and -low.
+    #[inline(always)]
+    fn sums(&self, samples: &[i32], least: &mut [u64], greatest: &mut [u64]) -> (u128, u128) {
+        let mut sums = (0, 0);
         for ((x, least), greatest) in samples.iter().zip(least).zip(greatest) {
             let (low, high) = self.interval(*x);
             let (near, far) = (low.max(-high).max(0) as u64, high.max(-low) as u64);
             let (near, far) = (u128::from(near) * u128::from(near), u128::from(far) * u128::from(far));
-            halves.push(first <= *x && *x <= last, near, far);
+            sums = (sums.0 + near, sums.1 + far);
             *least = (near >> 48) as u64;
             *greatest = ((far + ((1 << 48) - 1)) >> 48) as u64;
+        }
+        sums
+    }
+
+    /// Writes down the squares of samples in range, and hands their sums over to the half-periods.
+    pub fn squares(&self, samples: &[i32], halves: &mut Halves, least: &mut [u64], greatest: &mut [u64]) {
+        let mut at = 0;
+        while at < samples.len() {
+            let to = at + halves.room(&samples[at..], self.negative);
+            halves.add(to - at, self.sums(&samples[at..to], &mut least[at..to], &mut greatest[at..to]));
+            at = to;
         }
     }
 }
