@@ -35,9 +35,14 @@ def run(words, folder=None, status=0):
     return usage.ru_utime + usage.ru_stime, peak, out
 
 
+def place():
+    """Where the built program is."""
+    return os.path.join(TOP, "crates", "flicker", "out", "flicker")
+
+
 def built():
     """The path of the built program."""
-    program = os.path.join(TOP, "crates", "flicker", "out", "flicker")
+    program = place()
     if not os.path.exists(program):
         sys.exit("build the program first: ./flicker")
     return program

@@ -1,14 +1,16 @@
 #!/usr/bin/env python3
-"""Times `flicker report` on a generated recording of eleven minutes beside a plain Rust program of the same rules and integer arithmetic.
+"""Times `flicker report` on a generated recording of eleven minutes beside three programs in plain Rust.
 
     bench/report.py [RUNS] [PROGRAM]
 
 Makes the recording that `flicker gen 1 660` makes, 1,584,000 records of three voltages at 2400 samples a second, as ASCII and with the same
-values as BINARY, and a job of the standard's times: a run-in of 60 seconds and one interval of 600. Both programs report on each with 1, 2
-and 4 workers, RUNS times (5) in turn, and must print the same and end with the same status. Printed are for each the least processor time,
-the least time by the clock and the greatest peak of memory, and the ratios; then how much faster four workers are than one. The goals stand
-beside. At the end it compares the peaks of memory on a tenth of the records and on all of them, both with a run-in of 6 seconds and
-intervals of 60. It builds the plain program by cargo, and needs the built program (`./flicker` builds it), or another one as PROGRAM."""
+values as BINARY, and a job of the standard's times: a run-in of 60 seconds and one interval of 600. The programs in plain Rust are one of the
+same rules and integer arithmetic (plain), one that prints the same by faster arithmetic of whole numbers (fast), and one in double precision
+without intervals (double). All report on each with 1, 2 and 4 workers, RUNS times (5) in turn. All but double must print the same and end with the
+same status. Printed are for each the least processor time, the least time by the clock and the greatest peak of memory, and the ratios of
+processor times; then how much faster four workers are than one. The goals stand beside. At the end it compares the peaks of memory on a tenth
+of the records and on all of them, both with a run-in of 6 seconds and intervals of 60. It builds the plain programs by cargo. `flicker` is
+the built program (`./flicker` builds it), or another one as PROGRAM; where there is none, the plain ones are compared alone."""
 import os
 import struct
 import subprocess
@@ -64,50 +66,68 @@ def make(folder, records):
             data.write(packer.pack(n + 1, 1250 * n // 3, *values))
 
 
-def measured(folder, both, job, form, workers, runs):
+def measured(folder, all_of, job, form, workers, runs):
     """The least processor time, the least time by the clock and the greatest peak of memory of each program."""
     words = ["report", job + ".toml", form + ".cfg", form + ".dat", str(workers)]
-    ends = [subprocess.run([program] + words, cwd=folder, stdout=subprocess.PIPE) for program in both.values()]
-    if len({(end.returncode, end.stdout) for end in ends}) != 1:
-        sys.exit("the two programs end with %s" % [(end.returncode, end.stdout) for end in ends])
-    best = {name: (float("inf"), float("inf"), 0) for name in both}
+    ends = {name: subprocess.run([program] + words, cwd=folder, stdout=subprocess.PIPE) for name, program in all_of.items()}
+    texts = {(end.returncode, end.stdout) for name, end in ends.items() if name != "double"}
+    if len(texts) != 1:
+        sys.exit("the programs end with %s" % texts)
+    best = {name: (float("inf"), float("inf"), 0) for name in all_of}
     for _ in range(runs):
-        for name, program in both.items():
+        for name, program in all_of.items():
             start = time.monotonic()
-            seconds, memory, _ = programs.run([program] + words, folder, status=ends[0].returncode)
+            seconds, memory, _ = programs.run([program] + words, folder, status=ends[name].returncode)
             clock = time.monotonic() - start
             best[name] = (min(best[name][0], seconds), min(best[name][1], clock), max(best[name][2], memory))
     return best
 
 
+def ratios(best):
+    """The ratios of processor time: of the first program over each other one, and without flicker of fast over double too."""
+    names = list(best)
+    pairs = [(names[0], name) for name in names[1:]] + ([] if "flicker" in best else [("fast", "double")])
+    return {"%s/%s" % pair: best[pair[0]][0] / best[pair[1]][0] for pair in pairs}
+
+
+def compare(folder, all_of, form, runs):
+    """Prints the lines of a form, and answers the ratios with one worker."""
+    best = {workers: measured(folder, all_of, "long", form, workers, runs) for workers in WORKERS}
+    for workers, line in best.items():
+        columns = ["%6.3f %6.3f %6.1f" % line[name] for name in all_of]
+        print("%-6s %7d   %s   %s" % (form, workers, "   ".join(columns), " ".join("%.2f" % ratio for ratio in ratios(line).values())))
+    gains = ["%s %.2f" % (name, best[1][name][1] / best[4][name][1]) for name in all_of]
+    goal = " (goal of flicker: at least %.2f)" % SPEED_GOAL if form == "BINARY" else ""
+    print("%-6s four workers over one, by the clock: %s%s" % (form, ", ".join(gains), goal))
+    return ratios(best[1])
+
+
+def programs_of(folder):
+    """The path of each program by its name."""
+    program = os.path.abspath(sys.argv[2]) if len(sys.argv) > 2 else programs.place()
+    if len(sys.argv) > 2 and not os.path.exists(program):
+        sys.exit("there is no %s" % program)
+    first = {"flicker": program} if os.path.exists(program) else {}
+    return {**first, **dict(zip(["plain", "fast", "double"], programs.plains(folder, ["report", "fast", "double"])))}
+
+
 def main():
     runs = int(sys.argv[1]) if len(sys.argv) > 1 else 5
     with tempfile.TemporaryDirectory() as folder:
-        both = {
-            "flicker": os.path.abspath(sys.argv[2]) if len(sys.argv) > 2 else programs.built(),
-            "plain Rust": programs.plain(folder, "report"),
-        }
+        all_of = programs_of(folder)
         records = 2400 * SECONDS
         make(folder, records)
         print("%d records, best of %d runs; processor time and time by the clock in seconds, memory in MB" % (records, runs))
-        print("%-6s %7s   %-23s   %-23s   %s" % ("form", "workers", *both, "ratio of both times"))
-        one = {}
-        for form in ("ASCII", "BINARY"):
-            clocks = {}
-            for workers in WORKERS:
-                (a, b) = measured(folder, both, "long", form, workers, runs).values()
-                clocks[workers] = (a[1], b[1])
-                one.setdefault(form, a[0] / b[0])
-                columns = ["%7.3f %7.3f %7.1f" % x for x in (a, b)]
-                print("%-6s %7d   %s   %s   %.2f %.2f" % (form, workers, *columns, a[0] / b[0], a[1] / b[1]))
-            gains = [first / last for first, last in zip(clocks[1], clocks[4])]
-            goal = " (goal: at least %.2f)" % SPEED_GOAL if form == "BINARY" else ""
-            print("%-6s four workers over one, by the clock: flicker %.2f, plain Rust %.2f%s" % (form, *gains, goal))
-        ratios = ", ".join("%s %.2f" % ratio for ratio in one.items())
-        print("one worker against plain Rust, processor time: %s (goal: at most %.2f)" % (ratios, RATIO_GOAL))
-        peaks = {records: measured(folder, both, "short", "BINARY", 1, 1)}
+        heads = "   ".join("%-20s" % name for name in all_of)
+        pairs = " ".join(ratios({name: (1, 1, 1) for name in all_of}))
+        print("%-6s %7s   %s   %s" % ("form", "workers", heads, pairs))
+        one = {form: compare(folder, all_of, form, runs) for form in ("ASCII", "BINARY")}
+        for form, line in one.items():
+            goal = " (goal of flicker/plain: at most %.2f)" % RATIO_GOAL if "flicker" in all_of else ""
+            print("%-6s one worker, processor time: %s%s" % (form, ", ".join("%s %.2f" % ratio for ratio in line.items()), goal))
+        peaks = {records: measured(folder, all_of, "short", "BINARY", 1, 1)}
         make(folder, records // 10)
-        peaks[records // 10] = measured(folder, both, "short", "BINARY", 1, 1)
+        peaks[records // 10] = measured(folder, all_of, "short", "BINARY", 1, 1)
         for count in sorted(peaks):
             print("peak of memory with intervals of 60 s, %8d BINARY records: " % count
                   + ", ".join("%s %.1f MB" % (name, peak[2]) for name, peak in peaks[count].items()))

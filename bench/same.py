@@ -4,9 +4,9 @@
     bench/same.py [COUNT] [SEED] [FOLDER]
 
 Runs both on the cases of tests/cases and the examples whose command is `report`, and on COUNT random recordings (300) of
-tests/random_recordings.py from SEED (1) on, each with a random number of workers. They must end with the same status and print the same. It counts on how many cases and examples they print
-what is expected there: the plain programs read jobs with less care than `flicker`. It builds them by cargo, or takes them from a FOLDER.
-Ends with status 1 where there is a difference."""
+tests/random_recordings.py with the SEED (1), each with a random number of workers. They must end with the same status and print the same. It
+counts too on how many cases and examples they print what is expected there: the plain programs read jobs with less care than `flicker`. It
+builds them by cargo, or takes them from a FOLDER. Ends with status 1 where there is a difference."""
 import glob
 import os
 import subprocess

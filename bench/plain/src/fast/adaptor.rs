@@ -9,14 +9,17 @@ pub struct Adaptor {
     high: u128,
 }
 
-/// A quotient of `q * 2^64` that may be off by some units. Nothing of it is used but that its rest is small, which is tested.
+/// A number below 2^52 that is near `q * 2^64 / divisor` where this is below 2^52: with 2^52 added, a double has its whole part in the lowest
+/// 52 bits. Nothing of the guess is used but its rest, which is tested.
 #[inline(always)]
 fn guess(q: u64, divisor: u128) -> u64 {
     const SCALE: f64 = (1u64 << 56) as f64;
-    (q as i64 as f64 * SCALE / ((divisor >> 8) as i64 as f64)) as i64 as u64
+    const WHOLE: f64 = (1u64 << 52) as f64;
+    let quotient = q as i64 as f64 * SCALE / ((divisor >> 8) as i64 as f64);
+    (quotient + WHOLE).to_bits() & ((1 << 52) - 1)
 }
 
-/// What `q * 2^64` is more than `guess * divisor`.
+/// What `q * 2^64` is more than `guess * divisor`. It doesn't wrap: squares are below 2^53, means below 2^69 and guesses below 2^52.
 #[inline(always)]
 fn rest(q: u64, guess: u64, divisor: u128) -> i128 {
     (u128::from(q) << 64).wrapping_sub(u128::from(guess).wrapping_mul(divisor)) as i128

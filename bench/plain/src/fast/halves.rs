@@ -45,8 +45,8 @@ impl Halves {
         (self.since, self.least, self.greatest) = (0, 0, 0);
     }
 
-    /// How many of the next samples, of which there is one, belong to the half-period that the first of them belongs to. Those within the range have negative
-    /// voltages. Where the first of them begins a half-period, the one before ends.
+    /// How many of the next samples, at least one, belong to the half-period of the first of them. Those from `first` to `last` have
+    /// negative voltages. Where the first of them begins a half-period, the one before ends.
     pub fn room(&mut self, samples: &[i32], (first, last): (i32, i32)) -> usize {
         let negative = |place: usize| first <= samples[place] && samples[place] <= last;
         let changes = self.half <= 2 * self.since && negative(0) != self.negative;

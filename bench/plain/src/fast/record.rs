@@ -105,18 +105,21 @@ impl<'a> Fields<'a> {
         Some((start, end))
     }
 
+    #[inline(always)]
     fn inner(&mut self) -> Option<(usize, usize)> {
         let (start, end) = self.next()?;
         (self.bytes[end] == b',').then_some((start, end))
     }
 
     /// The last field, without the end of its line.
+    #[inline(always)]
     fn last(&mut self) -> Option<(usize, usize)> {
         let (start, end) = self.next()?;
         let cr = end > start && self.bytes[end - 1] == b'\r';
         (self.bytes[end] == b'\n').then_some((start, end - usize::from(cr)))
     }
 
+    #[inline(always)]
     fn word(&self, end: usize) -> Option<u64> {
         Some(u64::from_le_bytes(self.bytes.get(end.checked_sub(8)?..end)?.try_into().ok()?))
     }
