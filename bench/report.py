@@ -97,7 +97,7 @@ def compare(folder, all_of, form, runs):
         columns = ["%6.3f %6.3f %6.1f" % line[name] for name in all_of]
         print("%-6s %7d   %s   %s" % (form, workers, "   ".join(columns), " ".join("%.2f" % ratio for ratio in ratios(line).values())))
     gains = ["%s %.2f" % (name, best[1][name][1] / best[4][name][1]) for name in all_of]
-    goal = " (goal of flicker: at least %.2f)" % SPEED_GOAL if form == "BINARY" else ""
+    goal = " (goal of flicker: at least %.2f)" % SPEED_GOAL if form == "BINARY" and "flicker" in all_of else ""
     print("%-6s four workers over one, by the clock: %s%s" % (form, ", ".join(gains), goal))
     return ratios(best[1])
 
