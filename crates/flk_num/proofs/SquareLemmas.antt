@@ -1,9 +1,9 @@
 -- Squares and their order, and the least and the greatest square of a number between two whole numbers.
-use Rattle.std.proofs.Common.{◌≡◌, suc, ◌*◌, ◌<◌, ◌≤◌, ℤ, pos, ◌*ℤ◌, ◌≤ℤ◌, ◌<ℤ◌, ◌-◌, ◌^◌, max, refl, sym, subst, ⊎_elim, arith}
-use Rattle.std.specs.Prelude.{negsuc}
+use Rattle.std.proofs.Common.{◌≡◌, suc, ◌*◌, ◌≤◌, ℤ, pos, ◌*ℤ◌, ◌≤ℤ◌, max, refl, sym, subst, ⊎_elim, arith}
+use Rattle.std.specs.Prelude.{negsuc, neg_ℤ}
 use Rattle.std.specs.Int.RustNames.{unsigned_abs}
 use Rattle.std.specs.Int.{int_max}
-use Rattle.std.proofs.lemmas.Int.{ints, clamps, by_lt_z}
+use Rattle.std.proofs.lemmas.Int.{ints, clamps}
 use Rattle.std.proofs.lemmas.Bool.{cases_lt}
 use Rattle.std.proofs.lemmas.Nat.{mul-le}
 use Rattle.flk_num.specs.Square.{AreSquares, least_size, greatest_size}
@@ -48,26 +48,8 @@ AreSquares-across_high lo hi h k m = record {
   greatest_met = (lo, record { above = omega (arith, ints); below = omega (arith, ints) }, refl);
 }
 
--- a number below 2^63 in size has a square below 2^126
-pub square_bound : (z : ℤ) → unsigned_abs z < 2 ^ 63 → (z *ℤ z) <ℤ pos (2 ^ 126)
-square_bound z h = omega (arith, ints, square_is z, mul-le (unsigned_abs z) (unsigned_abs z) (2 ^ 63 - 1) (2 ^ 63 - 1) (omega arith) (omega arith))
-
-pub AreSquares-across : (lo hi : ℤ) → lo ≤ℤ pos 0 → pos 0 ≤ℤ hi → AreSquares lo hi (pos 0) (int_max (lo *ℤ lo) (hi *ℤ hi))
-AreSquares-across lo hi h k =
-    by_lt_z (pos (unsigned_abs lo)) (pos (unsigned_abs hi))
-    (λ less. let m : unsigned_abs lo ≤ unsigned_abs hi = omega (arith, ints) in
-    AreSquares-at lo hi _ _ _ _ (AreSquares-across_low lo hi h k m) refl (omega (arith, ints, clamps, square_≤ lo hi m)))
-    (λ most. let m : unsigned_abs hi ≤ unsigned_abs lo = omega (arith, ints) in
-    AreSquares-at lo hi _ _ _ _ (AreSquares-across_high lo hi h k m) refl (omega (arith, ints, clamps, square_≤ hi lo m)))
-
 -- the two squares are those of the least and of the greatest size
-AreSquares-unique : (lo hi p q r s : ℤ) → AreSquares lo hi p q → AreSquares lo hi r s → (p ≤ℤ r) × (s ≤ℤ q)
-AreSquares-unique lo hi p q r s h k =
-    let low = h.bounds k.least_met.0 k.least_met.1 in
-    let high = h.bounds k.greatest_met.0 k.greatest_met.1 in
-    (omega (arith, ints, low.above, k.least_met.2), omega (arith, ints, high.below, k.greatest_met.2))
-
-sizes_squared : (lo hi : ℤ) → lo ≤ℤ hi → AreSquares lo hi (pos (least_size lo hi * least_size lo hi)) (pos (greatest_size lo hi * greatest_size lo hi))
+pub sizes_squared : (lo hi : ℤ) → lo ≤ℤ hi → AreSquares lo hi (pos (least_size lo hi * least_size lo hi)) (pos (greatest_size lo hi * greatest_size lo hi))
 sizes_squared (pos a) (pos b) h =
     let f : max a b ≡ b = omega (arith, ints) in
     rw f (AreSquares-above_zero (pos a) (pos b) h (omega (arith, ints)))
@@ -85,8 +67,20 @@ sizes_squared (negsuc a) (negsuc b) h =
     let f : max (suc a) (suc b) ≡ suc a = omega (arith, ints) in
     rw f (AreSquares-below_zero (negsuc a) (negsuc b) h (omega (arith, ints)))
 
-pub squares_are : (lo hi p q : ℤ) → lo ≤ℤ hi → AreSquares lo hi p q → (p ≡ pos (least_size lo hi * least_size lo hi)) × (q ≡ pos (greatest_size lo hi * greatest_size lo hi))
-squares_are lo hi p q h s =
-    let here = AreSquares-unique lo hi _ _ _ _ s (sizes_squared lo hi h) in
-    let there = AreSquares-unique lo hi _ _ _ _ (sizes_squared lo hi h) s in
-    (omega (arith, ints), omega (arith, ints))
+pub least_within : (lo hi : ℤ) → lo ≤ℤ hi → least_size lo hi ≤ greatest_size lo hi
+least_within (pos a) hi h = omega (arith, ints)
+least_within (negsuc a) (pos b) h = omega (arith, ints)
+least_within (negsuc a) (negsuc b) h = omega (arith, ints)
+
+-- the sizes without a case
+pub least_size_is : (lo hi : ℤ) → lo ≤ℤ hi → int_max (int_max lo (neg_ℤ hi)) (pos 0) ≡ pos (least_size lo hi)
+least_size_is (pos a) (pos b) h = omega (arith, ints, clamps)
+least_size_is (pos a) (negsuc b) h = absurd (omega (arith, ints))
+least_size_is (negsuc a) (pos b) h = omega (arith, ints, clamps)
+least_size_is (negsuc a) (negsuc b) h = omega (arith, ints, clamps)
+
+pub greatest_size_is : (lo hi : ℤ) → lo ≤ℤ hi → int_max hi (neg_ℤ lo) ≡ pos (greatest_size lo hi)
+greatest_size_is (pos a) (pos b) h = omega (arith, ints, clamps)
+greatest_size_is (pos a) (negsuc b) h = absurd (omega (arith, ints))
+greatest_size_is (negsuc a) (pos b) h = omega (arith, ints, clamps)
+greatest_size_is (negsuc a) (negsuc b) h = omega (arith, ints, clamps)

@@ -2,11 +2,13 @@
 //! squares.
 //!
 //! Every number is a whole number of some fixed unit, which the caller knows, and every call answers the stated
-//! rounding exactly. No such call takes memory or refuses anything.
+//! rounding exactly. No such call takes memory or refuses anything. One call alone, [`whole_near`], answers a guess, for
+//! those who test it.
 //!
 //! Four types that the crates above share stand here too: [`List`], [`Stop`], [`Lamp`] and [`Rate`].
 #![tactic(auto)]
 
+mod guess;
 mod interval;
 mod lamp;
 mod list;
@@ -17,6 +19,7 @@ mod square;
 mod stop;
 mod threads;
 
+pub use guess::whole_near;
 pub use interval::Interval;
 pub use lamp::Lamp;
 pub use list::List;

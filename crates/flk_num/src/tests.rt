@@ -2,7 +2,7 @@
 
 use crate::{
     Interval, Squares, ceil_div, cube_root_ceil, exact_squares, floor_div, quotient_out, root_ceil,
-    root_floor, scaled_ceil, scaled_floor, square_out,
+    root_floor, scaled_ceil, scaled_floor, square_out, whole_near,
 };
 
 #[test]
@@ -146,4 +146,17 @@ fn squares(rt: HostRuntime) {
             hi: 85_070_591_730_234_615_847_396_907_784_232_501_249
         }
     );
+}
+
+// What is promised of it is its size alone: here is what it is for.
+#[test]
+fn whole_numbers_near(rt: HostRuntime) {
+    assert_eq!(rt; whole_near(0.0), 0);
+    assert_eq!(rt; whole_near(0.75), 0);
+    assert_eq!(rt; whole_near(3.75), 3);
+    assert_eq!(rt; whole_near(4.0), 4);
+    assert_eq!(rt; whole_near(281474976710656.25), 281_474_976_710_656);
+    assert_eq!(rt; whole_near(4503599627370495.0), 4_503_599_627_370_494);
+    assert_eq!(rt; whole_near(4503599627370497.0), 0);
+    assert_eq!(rt; whole_near(-3.0), 0);
 }
