@@ -8,5 +8,4 @@ pub mod NearMeans
 pub mod EnclosureLemmas
 pub mod WidthLemmas
 pub mod AdaptorLaws
-pub mod OutputSteps
 pub mod RunLemmas

@@ -6,7 +6,8 @@ use Rattle.std.specs.Int.RustNames.{unsigned_abs}
 use Rattle.std.proofs.lemmas.Int.{ints, unsigned_abs-mul}
 use Rattle.std.proofs.lemmas.Grind.{div_ceil_times}
 use Rattle.std.proofs.lemmas.Nat.{mul-le, div-add-mod', mod_below}
-use Rattle.std.proofs.Math.Nat.{div-mul-le_self, mul-le-mul_left, mul-le-mul_right, le_of_mul-le-mul_left, lt_of_mul-lt-mul_right}
+use Rattle.std.proofs.Math.Nat.{div-mul-le_self, mul-le-mul_left, mul-le-mul_right}
+use Rattle.std.proofs.Math.Nat.{le_of_mul-le-mul_left, le_of_mul-le-mul_right, lt_of_mul-lt-mul_right}
 use Rattle.flk_exact.specs.Fraction.{Fraction, ◌≤ℚ◌, ◌-ℚ◌, size, units}
 use Rattle.flk_exact.proofs.NumeratorLemmas.{IsOver, over_units, over_difference, over_size, over_at_most}
 use Rattle.flk_num.specs.declared.interval.Interval.{Interval}
@@ -36,13 +37,13 @@ ceil_at_most x d b c h k =
 pub ceil_unique : (x d c : ℕ) → 0 < d → x ≤ c * d → c * d + 1 ≤ x + d → c ≡ div_ceil x d
 ceil_unique x d c some h k = omega (arith, ceil_at_most x d c (div_ceil x d) k (ceil_within x d some), ceil_at_most x d (div_ceil x d) c (ceil_least x d some) h)
 
--- what is left of the dividend may be divided
-pub ceil_from : (x q d : ℕ) → 0 < d → q * d ≤ x → q + div_ceil (x - q * d) d ≡ div_ceil x d
-ceil_from x q d some h =
-    let c = div_ceil (x - q * d) d in
-    let k = ceil_within (x - q * d) d some in
-    let l = ceil_least (x - q * d) d some in
-    ceil_unique x d (q + c) some (omega arith) (omega arith)
+-- a greater dividend and a lesser divisor give no lesser quotient
+pub floor_at_most_ceil : (a b m n : ℕ) → a ≤ b → 0 < m → m ≤ n → a / n ≤ div_ceil b m
+floor_at_most_ceil a b m n less some wider =
+    let q = a / n in
+    let c = div_ceil b m in
+    let h : q * n ≤ c * n = omega (arith, div-mul-le_self a n, ceil_within b m some, mul-le-mul_left c wider) in
+    le_of_mul-le-mul_right {k = n} h (omega arith)
 
 -- ---- rounded squares hold the exact one
 

@@ -1,11 +1,11 @@
 //! The rounded steps of the adaptor: each takes two ends and answers two ends.
 
-ghost use Rattle.std.specs.Prelude.{◌≡◌, ◌*◌, ◌^◌, ◌≤◌};
+ghost use Rattle.std.specs.Prelude.{◌≡◌, ◌*◌, ◌/◌, ◌^◌, ◌<◌, ◌≤◌};
 ghost use Rattle.std.specs.Int.{div_ceil};
 ghost use Rattle.flk_num.specs.Interval.{IsSmall};
 ghost use Rattle.flk_front.specs.Rounded.{squares_of, next_mean, divisor_of, output_of};
 
-use flk_num::{Interval, exact_squares};
+use flk_num::{Interval, exact_squares, whole_near};
 
 /// A lower and an upper end, in one unit.
 #[derive(Clone, Copy, Debug, PartialEq, Eq)]
@@ -40,8 +40,9 @@ fn part_up(x: u128, exponent: u32) -> u128
     (x + ((1 << exponent) - 1)) >> exponent
 }
 
-/// The mean after a sample with these squares, in units of 2^-64. A sample counts for one part in 2^exponent.
-pub fn mean_after(exponent: u32, mean: Ends, squares: Ends) -> Ends
+// The mean after a sample. Each call writes the exponent out: shifts by a number that is known are quicker.
+#[inline(always)]
+fn mean_with(exponent: u32, mean: Ends, squares: Ends) -> Ends
     requires exponent_low { 16 ≤ exponent }
     requires exponent_high { exponent ≤ 17 }
     requires ordered { mean.lo ≤ mean.hi }
@@ -57,6 +58,25 @@ pub fn mean_after(exponent: u32, mean: Ends, squares: Ends) -> Ends
     Ends {
         lo: mean.lo - part_up(mean.lo, exponent) + least,
         hi: mean.hi - (mean.hi >> exponent) + greatest,
+    }
+}
+
+/// The mean after a sample with these squares, in units of 2^-64. A sample counts for one part in 2^exponent.
+pub fn mean_after(exponent: u32, mean: Ends, squares: Ends) -> Ends
+    requires exponent_low { 16 ≤ exponent }
+    requires exponent_high { exponent ≤ 17 }
+    requires ordered { mean.lo ≤ mean.hi }
+    requires small { mean.hi ≤ 17 * 2 ^ 64 }
+    requires squares_ordered { squares.lo ≤ squares.hi }
+    requires squares_small { 2 * squares.hi ≤ 33 * 2 ^ 48 }
+    ensures value { result ≡ next_mean exponent mean squares }
+    ensures ordered { result.lo ≤ result.hi }
+    ensures small { result.hi ≤ 17 * 2 ^ 64 }
+{
+    if exponent == 16 {
+        mean_with(16, mean, squares)
+    } else {
+        mean_with(17, mean, squares)
     }
 }
 
@@ -83,19 +103,62 @@ fn dividend(square: u128) -> u128
     square << 64
 }
 
-// `dividend / divisor`, rounded up. Where it is below about 2^30, the quotient of their high parts is nearly always
-// the one below it, and a division of 128 bits is saved.
-fn small_quotient(dividend: u128, divisor: u128) -> u128
-    requires low { 2 ^ 62 ≤ divisor }
-    requires small { divisor ≤ 17 * 2 ^ 64 }
-    ensures { result ≡ div_ceil dividend divisor }
+const TWO_TO_52: f64 = 4503599627370496.0;
+
+const TWO_TO_47: f64 = 140737488355328.0;
+
+// A whole number near `square * 2^64 / divisor`, by arithmetic in double precision. Nothing rests on how near: what its
+// product leaves of the dividend tells whether it is the quotient.
+fn guess(square: u128, divisor: u128) -> u128
+    requires square_small { 2 * square ≤ 33 * 2 ^ 48 }
+    requires divisor_small { divisor ≤ 17 * 2 ^ 64 }
+    ensures { result < 2 ^ 52 }
 {
-    if dividend >> 96 == 0 {
-        let guess = u128::from((dividend >> 32) as u64 / (divisor >> 32) as u64);
-        let below = guess * divisor;
-        if below < dividend && dividend <= below + divisor {
+    // The divisor's low bits are left out, so that a double holds the rest.
+    let quotient = if divisor >> 65 == 0 {
+        square as i64 as f64 * TWO_TO_52 / (divisor >> 12) as i64 as f64
+    } else {
+        square as i64 as f64 * TWO_TO_47 / (divisor >> 17) as i64 as f64
+    };
+    u128::from(whole_near(quotient))
+}
+
+// `square * 2^64 / divisor`, rounded down.
+fn quotient_down(square: u128, divisor: u128) -> u128
+    requires square_small { 2 * square ≤ 33 * 2 ^ 48 }
+    requires divisor_low { 2 ^ 62 ≤ divisor }
+    requires divisor_small { divisor ≤ 17 * 2 ^ 64 }
+    ensures { result ≡ square * 2 ^ 64 / divisor }
+{
+    let dividend = dividend(square);
+    let guess = guess(square, divisor);
+    let product = guess * divisor;
+    if product <= dividend {
+        if dividend - product < divisor {
+            return guess;
+        }
+    } else if product - dividend <= divisor {
+        return guess - 1;
+    }
+    dividend / divisor
+}
+
+// `square * 2^64 / divisor`, rounded up.
+fn quotient_up(square: u128, divisor: u128) -> u128
+    requires square_small { 2 * square ≤ 33 * 2 ^ 48 }
+    requires divisor_low { 2 ^ 62 ≤ divisor }
+    requires divisor_small { divisor ≤ 17 * 2 ^ 64 }
+    ensures { result ≡ div_ceil (square * 2 ^ 64) divisor }
+{
+    let dividend = dividend(square);
+    let guess = guess(square, divisor);
+    let product = guess * divisor;
+    if product < dividend {
+        if dividend - product <= divisor {
             return guess + 1;
         }
+    } else if product - dividend < divisor {
+        return guess;
     }
     dividend.div_ceil(divisor)
 }
@@ -111,11 +174,8 @@ pub fn quotients(squares: Ends, divisor: Ends) -> Ends
     ensures ordered { result.lo ≤ result.hi }
     ensures small { result.hi ≤ 66 * 2 ^ 48 }
 {
-    let lo = dividend(squares.lo) / divisor.hi;
-    // The upper quotient is not far from the lower one.
-    let more = dividend(squares.hi) - lo * divisor.lo;
     Ends {
-        lo,
-        hi: lo + small_quotient(more, divisor.lo),
+        lo: quotient_down(squares.lo, divisor.hi),
+        hi: quotient_up(squares.hi, divisor.lo),
     }
 }

@@ -1,8 +1,14 @@
-use Rattle.std.proofs.Common.{arith}
-use Rattle.flk_front.proofs.OutputSteps.{outputs_are}
+use Rattle.std.proofs.Common.{◌*◌, ◌^◌, arith}
+use Rattle.flk_front.proofs.SquareSteps.{floor_at_most_ceil}
 use Rattle.flk_front.proofs.ends.quotients.Goals as goal
 
-pub returns-clause-value : goal.returns-clause-value
-returns-clause-value c =
-    outputs_are c.args.squares c.args.divisor c.dividend.result c.dividend-2.result c.small_quotient.result c.dividend.ensures c.dividend-2.ensures c.requires.ordered
-    (omega (arith, c.requires.divisor_low)) c.requires.divisor_ordered c.small_quotient.ensures
+pub returns-clause-ordered : goal.returns-clause-ordered
+returns-clause-ordered c =
+    let need = c.requires in
+    omega (
+      arith,
+      c.quotient_down.ensures,
+      c.quotient_up.ensures,
+      floor_at_most_ceil (c.args.squares.lo * 2 ^ 64) (c.args.squares.hi * 2 ^ 64) c.args.divisor.lo c.args.divisor.hi
+          (omega arith) (omega arith) need.divisor_ordered,
+    )

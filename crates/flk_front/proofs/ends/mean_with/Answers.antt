@@ -1,5 +1,5 @@
 use Rattle.flk_front.proofs.RunLemmas.{next_ordered, next_small}
-use Rattle.flk_front.proofs.ends.mean_after.Goals as goal
+use Rattle.flk_front.proofs.ends.mean_with.Goals as goal
 
 pub returns-clause-ordered : goal.returns-clause-ordered
 returns-clause-ordered c =
