@@ -45,23 +45,32 @@ greatest_of half s w above (pos n) h =
     (λ within. omega (arith, ints))
     (cases_lt w n)
 
+-- the root is the value, where its square and the next one times `half` are compared with the rounded limit
+pub compared_value : (half s p w : ℕ) → p ≡ 5 ^ 18 * s / 2 ^ 78
+    → w * w * half ≤ p → p < (w + 1) * (w + 1) * half → IsValueAt half s (pos w)
+compared_value half s p w e within greatest =
+    let whole = div-add-mod' (5 ^ 18 * s) (2 ^ 78) in
+    let rest = mod_below (5 ^ 18 * s) (2 ^ 78) (omega arith) in
+    let low : p * 2 ^ 78 ≤ 5 ^ 18 * s = omega (arith, whole) in
+    let high : 5 ^ 18 * s < (p + 1) * 2 ^ 78 = omega (arith, whole, rest) in
+    let above : 5 ^ 18 * s < (w + 1) * (w + 1) * (half * 2 ^ 78) = omega (arith, mul-le-mul_right (2 ^ 78) greatest) in
+    record {
+      reached = omega (arith, ints, mul-le-mul_right (2 ^ 78) within);
+      greatest = greatest_of half s w above;
+    }
+
 -- the root of the rounded quotient is the value
 pub root_value : (half s p : ℕ) (q w : ℤ) → 0 < half → p ≡ 5 ^ 18 * s / 2 ^ 78 → q ≡ pos (p / half) → IsRootFloor q w → IsValueAt half s w
 root_value half s p q (negsuc w) some e f root = absurd (omega (arith, ints, root.natural))
 root_value half s p q (pos w) some e f root =
     let within = rw f at root.within in
     let greatest = rw f at root.greatest in
-    let outer = div-add-mod' p half in
-    let inner : p * 2 ^ 78 ≤ 5 ^ 18 * s = omega (arith, div-add-mod' (5 ^ 18 * s) (2 ^ 78)) in
-    let next : 5 ^ 18 * s < p * 2 ^ 78 + 2 ^ 78 = omega (arith, div-add-mod' (5 ^ 18 * s) (2 ^ 78), mod_below (5 ^ 18 * s) (2 ^ 78) (omega arith)) in
-    let rest = mod_below p half some in
     let low : w * w ≤ p / half = omega (arith, ints, within) in
     let high : p / half + 1 ≤ (w + 1) * (w + 1) = omega (arith, ints, greatest) in
-    let above : 5 ^ 18 * s < (w + 1) * (w + 1) * (half * 2 ^ 78) = omega (arith, mul-le-mul_right (half * 2 ^ 78) high) in
-    record {
-      reached = omega (arith, ints, mul-le-mul_right (half * 2 ^ 78) low);
-      greatest = greatest_of half s w above;
-    }
+    let whole = div-add-mod' p half in
+    let rest = mod_below p half some in
+    compared_value half s p w e (omega (arith, whole, mul-le-mul_right half low))
+    (omega (arith, whole, rest, mul-le-mul_right half high))
 
 -- values keep the order of the sums
 pub values_≤ : (half s t : ℕ) (v w : ℤ) → s ≤ t → IsValueAt half s v → IsValueAt half t w → v ≤ℤ w

@@ -4,7 +4,7 @@ ghost use Rattle.std.specs.Prelude.{◌≡◌, ◌↔◌, ◌+◌, ◌*◌, ◌/
 ghost use Rattle.std.specs.Int.RustNames.{unsigned_abs};
 ghost use Rattle.flk_num.specs.Values.{IsHalfPeriodRange};
 
-use flk_num::{Interval, crosses_threads, exact_squares, root_floor};
+use flk_num::{Interval, crosses_threads, exact_squares, root_floor, whole_near};
 
 const FIVE_TO_18: u128 = 3_814_697_265_625;
 
@@ -17,6 +17,31 @@ fn squared_billionths(sum: u128) -> u128
     let high = (sum >> 64) * FIVE_TO_18;
     let low = (sum % TWO_TO_64) * FIVE_TO_18;
     (high + (low >> 64)) >> 14
+}
+
+const TWO_TO_19: f64 = 524288.0;
+
+// A whole number near the root of `limit / half`, by arithmetic in double precision. Nothing rests on how near: its
+// square tells whether it is the root.
+fn guess(limit: u128, half: usize) -> u64
+    requires limit { limit < 2 ^ 72 }
+    requires half { half ≤ 48 }
+    ensures { result < 2 ^ 52 }
+{
+    // The low bits are left out, so that a double holds the rest.
+    let quotient = (limit >> 19) as i64 as f64 * TWO_TO_19 / half as i64 as f64;
+    whole_near(quotient.sqrt())
+}
+
+// Whether `root` is the root of `limit / half`, rounded down.
+fn is_root(root: u64, limit: u128, half: usize) -> bool
+    requires root { root < 2 ^ 52 }
+    requires half { half ≤ 48 }
+    ensures { IsTrue result ↔ ((root * root * half ≤ limit) × (limit < (root + 1) * (root + 1) * half)) }
+{
+    let half = half as u64;
+    let least = u128::from(root) * u128::from(root * half);
+    least <= limit && limit - least < u128::from((2 * root + 1) * half)
 }
 
 /// Cuts samples into half-periods, and answers the interval of each half-period's value.
@@ -122,9 +147,15 @@ impl Cutter {
 
     // The value of half a nominal period with this sum of squares, in billionths, rounded down.
     fn value_at(&self, sum: u128) -> i128
+        requires { sum ≤ 25 * 2 ^ 96 * 96 }
         ensures { IsValueAt self.now.half sum result }
     {
-        let quotient = squared_billionths(sum) / self.half as u128;
+        let limit = squared_billionths(sum);
+        let root = guess(limit, self.half);
+        if is_root(root, limit, self.half) {
+            return i128::from(root);
+        }
+        let quotient = limit / self.half as u128;
         root_floor(quotient as i128)
     }
 }
