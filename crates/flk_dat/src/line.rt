@@ -1,13 +1,14 @@
 //! ASCII records.
 
-ghost use Rattle.std.specs.Prelude.{◌≡◌, ◌+◌, ◌<◌, ◌≤◌, ◌∷◌, [], ℕ, pos, false, length, drop, get_or, slice_index_or, OnOk, IfOk, IfErr};
+ghost use Rattle.std.specs.Prelude.{◌≡◌, ◌+◌, ◌<◌, ◌≤◌, ◌∷◌, [], ℕ, pos, false, length, drop, get_or, slice_index_or, List, MatchResult, OnOk, IfOk, IfErr};
 ghost use Rattle.std.specs.List.{list_all, position_or_len};
 ghost use Rattle.flk_text.specs.Lines.{is_byte, without_cr as without_cr_of};
 ghost use Rattle.flk_text.specs.Fields.{fields as fields_of};
+ghost use Rattle.flk_text.specs.WholeNumber.{IsWholeAnswer};
 ghost use Rattle.flk_field.specs.Values.{IsBit};
 ghost use Rattle.flk_dat.specs.Records.{Follows, IsPresent};
 ghost use Rattle.flk_dat.specs.Blocks.{row_in, HavePlace, ChangesPlace, ChangesRow};
-ghost use Rattle.flk_dat.specs.SampleFields.{IsNumber, IsStamp, IsSample, IsThere, Analog, Digital};
+ghost use Rattle.flk_dat.specs.SampleFields.{IsNumber, IsStamp, IsSample, IsThere, Stamp, Analog, Digital, Refuses};
 ghost use Rattle.flk_dat.specs.AsciiRecords.{IsRow, IsLine, LineFault, IsFirstOut, column, field_total};
 ghost use Rattle.flk_dat.specs.Streams.{ends_line};
 ghost use Rattle.flk_dat.specs.Heads.{headed, head_column, HasRow};
@@ -16,10 +17,10 @@ ghost use Rattle.flk_field.specs.declared.form.Form.TheVariants as forms;
 use crate::channels::Channels;
 use crate::column::Column;
 use crate::columns::Columns;
-use crate::fields::{analog_value, digital_value, sample_number, time_stamp};
+use crate::fields::{analog_value, digital_value, sample_number, stamp_of, time_stamp};
 use crate::head::Head;
 use crate::kind::{Fault, Kind};
-use flk_text::{Fields, field_count, last_line_end, position_of, without_cr};
+use flk_text::{Fields, NumFault, field_count, last_line_end, position_of, whole, without_cr};
 
 /// The most bytes of a line without its end.
 pub const LONGEST_LINE: usize = 16_384;
@@ -57,6 +58,29 @@ fn next<'a>(fields: &mut Fields<'a>) -> &'a [u8]
     fields.next_field().unwrap()
 }
 
+/// Takes the next field, and reads it as a whole number.
+fn next_whole(fields: &mut Fields<'_>) -> Result<i64, NumFault>
+    requires { 0 < length fields.old }
+    ensures { (field : List ℕ) × (fields.old ≡ field ∷ fields.new) × IsWholeAnswer field result }
+{
+    match fields.next_whole() {
+        Some(value) => Ok(value),
+        None => whole(next(fields)),
+    }
+}
+
+/// Takes the next field, and reads it as a time stamp.
+fn next_stamp(fields: &mut Fields<'_>) -> Result<Option<u64>, Kind>
+    requires { 0 < length fields.old }
+    ensures { (field : List ℕ) × (fields.old ≡ field ∷ fields.new)
+        × MatchResult result (λ s. IsStamp field s) (λ kind. Refuses Stamp field kind) }
+{
+    match fields.next_whole() {
+        Some(value) => stamp_of(Ok(value)),
+        None => time_stamp(next(fields)),
+    }
+}
+
 /// Reads the analog values, which begin at the third field, into a row of the columns.
 fn read_analog(
     fields: &mut Fields<'_>,
@@ -79,7 +103,7 @@ fn read_analog(
         (length channels.now.selected.items) fields.old i f.kind) }
 {
     for i in 0..channels.selected.len() {
-        match analog_value(next(fields), channels.selected[i]) {
+        match analog_value(next_whole(fields), channels.selected[i]) {
             Ok(value) => columns[i].put(row, value),
             Err(kind) => {
                 return Err(Fault {
@@ -109,7 +133,7 @@ fn read_digital(
         × IsFirstOut (λ j. Digital) (length columns.old.items) fields.old i f.kind) }
 {
     for i in 0..columns.len() {
-        match digital_value(next(fields)) {
+        match digital_value(next_whole(fields)) {
             Ok(value) => columns[i].put(row, value),
             Err(kind) => {
                 return Err(Fault {
@@ -131,11 +155,11 @@ fn read_head(fields: &mut Fields<'_>, before: Option<u32>) -> Result<Head, Fault
     ensures fault { IfErr result
         (λ f. (i : ℕ) × (f.field ≡ i + 1) × IsFirstOut (head_column before) 2 fields.old i f.kind) }
 {
-    let number = match sample_number(next(fields), before) {
+    let number = match sample_number(next_whole(fields), before) {
         Ok(number) => number,
         Err(kind) => return Err(Fault { field: 1, kind }),
     };
-    match time_stamp(next(fields)) {
+    match next_stamp(fields) {
         Ok(stamp) => Ok(Head { number, stamp }),
         Err(kind) => Err(Fault { field: 2, kind }),
     }

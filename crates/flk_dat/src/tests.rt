@@ -137,6 +137,66 @@ fn the_first_fault_is_named(rt: HostRuntime) -> Result<(), Fail> {
     Ok(())
 }
 
+/// The line with a space at both ends of each field.
+fn spaced(alloc: Global, line: &[u8]) -> Result<Vec<u8>, AllocError> {
+    let mut all = Vec::from_slice(alloc, b" ")?;
+    for byte in line {
+        if *byte == b',' {
+            all.extend_from_slice(b" , ")?;
+        } else {
+            all.push(*byte)?;
+        }
+    }
+    all.push(b' ')?;
+    Ok(all)
+}
+
+#[test]
+fn fields_of_each_form(rt: HostRuntime) -> Result<(), Fail> {
+    let one = b"2400,1\r\n";
+    for (line, value, field, kind) in [
+        (b"1,0,23000".as_slice(), 23_000, 0, 0),
+        (b"+1,+0,+23000", 23_000, 0, 0),
+        (b"0001,000,-00023000", -23_000, 0, 0),
+        (b"-0,-0,-0", 0, 0, 0),
+        (b"1,,5", 5, 0, 0),
+        (b"00000000001,00000000000002,-00000000000003", -3, 0, 0),
+        (b"4294967295,9999999999,-99999", -99_999, 0, 0),
+        (b"4294967296,0,7", 0, 1, 3),
+        (b"12345678901,0,7", 0, 1, 3),
+        (b"1000000000000,0,7", 0, 1, 3),
+        (b"-1,0,7", 0, 1, 3),
+        (b",0,7", 0, 1, 2),
+        (b"1.,0,7", 0, 1, 2),
+        (b"1,10000000000,7", 0, 2, 3),
+        (b"1,-1,7", 0, 2, 3),
+        (b"1,-,7", 0, 2, 2),
+        (b"1,0,100000", 0, 3, 3),
+        (b"1,0,-100000", 0, 3, 3),
+        (b"1,0,99999999999999999999", 0, 3, 3),
+        (b"1,0,99999", 0, 3, 7),
+        (b"1,0,+099999", 0, 3, 7),
+        (b"1,0,", 0, 3, 2),
+        (b"1,0,1:", 0, 3, 2),
+        (b"1,0,7,8", 0, 0, 1),
+        (b"1,0", 0, 0, 1),
+    ] {
+        let rows = if kind == 0 { 1 } else { 0 };
+        let row = if kind == 0 { 0 } else { 1 };
+        let answer = (rows, value, row, field, kind);
+        let plain = spaced(rt.alloc(), line)?;
+        assert_eq!(rt;
+            answer_to(rt.alloc(), one, b"ASCII\r\n", &[1], line, b"")?,
+            answer
+        );
+        assert_eq!(rt;
+            answer_to(rt.alloc(), one, b"ASCII\r\n", &[1], &plain, b"")?,
+            answer
+        );
+    }
+    Ok(())
+}
+
 #[test]
 fn binary_records(rt: HostRuntime) -> Result<(), Fail> {
     let two = b"2400,2\r\n";

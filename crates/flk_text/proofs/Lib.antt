@@ -7,4 +7,5 @@ pub mod DecimalLaws
 pub mod TextCases
 pub mod LineLaws
 pub mod WrittenLaws
+pub mod WholeFields
 pub mod BillionthsLemmas

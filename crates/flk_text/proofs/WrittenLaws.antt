@@ -85,7 +85,7 @@ comma_apart = record { digit = refl; plus = refl; minus = refl; point = refl; up
 pub space_apart : IsApart 32
 space_apart = record { digit = refl; plus = refl; minus = refl; point = refl; upper = refl; lower = refl }
 
-sign_lacks : (c : ℕ) (sign : List ℕ) (m : Bool) → IsApart c → IsSign sign m → Lacks c sign
+pub sign_lacks : (c : ℕ) (sign : List ℕ) (m : Bool) → IsApart c → IsSign sign m → Lacks c sign
 sign_lacks c sign m a (inl s) = subst (Lacks c) (sym s.0) refl
 sign_lacks c sign m a (inr (inl s)) = subst (Lacks c) (sym s.0) a.plus
 sign_lacks c sign m a (inr (inr s)) = subst (Lacks c) (sym s.0) a.minus

@@ -56,7 +56,7 @@ fn digits(bytes: &[u8]) -> (&[u8], &[u8])
 
 /// Whether a minus stands in front, and what follows the sign.
 #[tactic(auto, unfolding(crate::specs::NumeralParts::sign_of))]
-fn sign(bytes: &[u8]) -> (bool, &[u8])
+pub fn sign(bytes: &[u8]) -> (bool, &[u8])
     ensures { (result.0, result.1.now) ≡ sign_of bytes.now }
 {
     match bytes {

@@ -1,5 +1,5 @@
 use crate::{
-    Billionths, DecimalValue, Ends, Lines, NumFault, decimal, field, field_count, is_tail,
+    Billionths, DecimalValue, Ends, Fields, Lines, NumFault, decimal, field, field_count, is_tail,
     push_decimal, whole,
 };
 use std::test::Fail;
@@ -136,6 +136,48 @@ fn cuts_fields(rt: HostRuntime) {
     assert_eq!(rt; field(line, 6), None);
     assert_eq!(rt; field_count(b""), 1);
     assert_eq!(rt; field(b"", 1), Some(b"".as_slice()));
+}
+
+#[test]
+fn takes_whole_numbers(rt: HostRuntime) {
+    for (line, number) in [
+        (b"7,8,x".as_slice(), Some(7)),
+        (b"-22401,22536", Some(-22_401)),
+        (b"+5", Some(5)),
+        (b"0", Some(0)),
+        (b"-0,", Some(0)),
+        (b"007,,9", Some(7)),
+        (b"12345678901,1", Some(12_345_678_901)),
+        (b"-999999999999", Some(-999_999_999_999)),
+        (b"000000000000000000042,1", Some(42)),
+        (b"1000000000000,2", None),
+        (b"18446744073709551617", None),
+        (b" 7,8", None),
+        (b"7 ,8", None),
+        (b"- 7", None),
+        (b"7\r", None),
+        (b"", None),
+        (b",7", None),
+        (b"-,7", None),
+        (b"+", None),
+        (b"+-7", None),
+        (b"7-", None),
+        (b"1.0,7", None),
+        (b"1:,7", None),
+        (b"1/,7", None),
+        (b"x,7", None),
+    ] {
+        let mut fields = Fields::new(line);
+        let mut plain = Fields::new(line);
+        assert_eq!(rt; fields.next_whole(), number);
+        if let Some(value) = number {
+            assert_eq!(rt; plain.next_field().map(whole), Some(Ok(value)));
+        }
+        for _ in 0..4 {
+            assert_eq!(rt; fields.next_field(), plain.next_field());
+        }
+        assert_eq!(rt; fields.next_whole(), None);
+    }
 }
 
 #[test]

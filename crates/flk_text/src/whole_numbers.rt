@@ -26,7 +26,7 @@ pub fn whole(text: &[u8]) -> Result<i64, NumFault>
 }
 
 /// The number with its sign.
-fn signed(minus: bool, size: u64) -> i64
+pub fn signed(minus: bool, size: u64) -> i64
     requires { size ≤ 10 ^ 12 }
     ensures value { result ≡ signed_size minus size }
     ensures small { unsigned_abs result ≤ 10 ^ 12 }

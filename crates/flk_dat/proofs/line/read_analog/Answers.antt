@@ -17,13 +17,14 @@ returns-in-Err-clause-fault c =
     let row = row_in c.args.row (pos 0) c.loop-i.columns.items in
     let below : i < length selected = omega (arith, c.loop-i-test.true, c.len-i-end.ensures) in
     let chosen : c.index.result.now ≡ get_or selected i false = get_or_read_under selected i (length selected) c.index.result.now false c.index.ensures below refl in
-    let here = field_taken all c.loop-i.fields c.next.new.fields i c.next.result.now c.loop-i.invariant.left c.next.ensures in (
+    let taken = c.next_whole.ensures in
+    let here = field_taken all c.loop-i.fields c.next_whole.new.fields i taken.0 c.loop-i.invariant.left taken.1 in (
       i,
       refl,
       record {
         within = below;
         left = λ j lt. analog_in (get_or selected j false) (get_or all j []) (get_or row j (pos 0)) (c.loop-i.invariant.samples j lt) (c.loop-i.invariant.present j lt);
-        here = subst (λ (b : Bool). Refuses (Analog b) (get_or all i []) c.in-Err.kind) chosen (subst (λ (f : List ℕ). Refuses (Analog c.index.result.now) f c.in-Err.kind) here c.in-Err.ensures);
+        here = subst (λ (b : Bool). Refuses (Analog b) (get_or all i []) c.in-Err.kind) chosen (subst (λ (f : List ℕ). Refuses (Analog c.index.result.now) f c.in-Err.kind) here (c.in-Err.ensures.value taken.0 taken.2));
       },
     )
 
@@ -45,10 +46,11 @@ loop-i-preserved c =
     let is : c.put.new.self ≡ set (get_or cs i []) k v = put ∙ ap (λ (x : List ℤ). set x k v) was in
     let below : i < length selected = omega (arith, c.loop-i-test.true, c.len-i-end.ensures) in
     let chosen : c.index.result.now ≡ get_or selected i false = get_or_read_under selected i (length selected) c.index.result.now false c.index.ensures below refl in
-    let here = field_taken all c.loop-i.fields c.next.new.fields i c.next.result.now c.loop-i.invariant.left c.next.ensures in
+    let taken = c.next_whole.ensures in
+    let here = field_taken all c.loop-i.fields c.next_whole.new.fields i taken.0 c.loop-i.invariant.left taken.1 in
     record {
-      left = fields_left_then all c.loop-i.fields c.next.new.fields i c.next.result.now c.loop-i.invariant.left c.next.ensures;
+      left = fields_left_then all c.loop-i.fields c.next_whole.new.fields i taken.0 c.loop-i.invariant.left taken.1;
       changed = put_changes k (pos 0) old cs i v c.put.new.self so lt is;
-      samples = each_put (λ j z. IsSample (get_or all j []) z) k (pos 0) cs i v c.put.new.self have lt is c.loop-i.invariant.samples (subst (λ (f : List ℕ). IsSample f v) here c.in-Ok.ensures.0);
-      present = each_put (λ j z. IsThere (get_or selected j false) z) k (pos 0) cs i v c.put.new.self have lt is c.loop-i.invariant.present (subst (λ (b : Bool). IsThere b v) chosen c.in-Ok.ensures.1);
+      samples = each_put (λ j z. IsSample (get_or all j []) z) k (pos 0) cs i v c.put.new.self have lt is c.loop-i.invariant.samples (subst (λ (f : List ℕ). IsSample f v) here (c.in-Ok.ensures.value taken.0 taken.2));
+      present = each_put (λ j z. IsThere (get_or selected j false) z) k (pos 0) cs i v c.put.new.self have lt is c.loop-i.invariant.present (subst (λ (b : Bool). IsThere b v) chosen c.in-Ok.ensures.there);
     }

@@ -12,13 +12,14 @@ returns-in-Err-clause-fault c =
     let all = c.args.fields.now in
     let i = c.loop-i.i in
     let row = row_in c.args.row false c.loop-i.columns.items in
-    let here = field_taken all c.loop-i.fields c.next.new.fields i c.next.result.now c.loop-i.invariant.left c.next.ensures in (
+    let taken = c.next_whole.ensures in
+    let here = field_taken all c.loop-i.fields c.next_whole.new.fields i taken.0 c.loop-i.invariant.left taken.1 in (
       i,
       refl,
       record {
         within = omega (arith, c.loop-i-test.true, c.len-i-end.ensures);
         left = λ j lt. digital_in (get_or all j []) (get_or row j false) (c.loop-i.invariant.bits j lt);
-        here = subst (λ (f : List ℕ). Refuses Digital f c.in-Err.kind) here c.in-Err.ensures;
+        here = subst (λ (f : List ℕ). Refuses Digital f c.in-Err.kind) here (c.in-Err.ensures taken.0 taken.2);
       },
     )
 
@@ -35,9 +36,10 @@ loop-i-preserved c =
     let have = place_kept k false old cs c.requires.places so in
     let was : c.index_mut.result.now ≡ get_or cs i [] = get_or_read_under cs i (length cs) c.index_mut.result.now [] c.index_mut.ensures.value lt refl in
     let is : c.put.new.self ≡ set (get_or cs i []) k v = c.put.ensures ∙ ap (λ (x : List Bool). set x k v) was in
-    let here = field_taken all c.loop-i.fields c.next.new.fields i c.next.result.now c.loop-i.invariant.left c.next.ensures in
+    let taken = c.next_whole.ensures in
+    let here = field_taken all c.loop-i.fields c.next_whole.new.fields i taken.0 c.loop-i.invariant.left taken.1 in
     record {
-      left = fields_left_then all c.loop-i.fields c.next.new.fields i c.next.result.now c.loop-i.invariant.left c.next.ensures;
+      left = fields_left_then all c.loop-i.fields c.next_whole.new.fields i taken.0 c.loop-i.invariant.left taken.1;
       changed = put_changes k false old cs i v c.put.new.self so lt is;
-      bits = each_put (λ j b. IsBit (get_or all j []) b) k false cs i v c.put.new.self have lt is c.loop-i.invariant.bits (subst (λ (f : List ℕ). IsBit f v) here c.in-Ok.ensures);
+      bits = each_put (λ j b. IsBit (get_or all j []) b) k false cs i v c.put.new.self have lt is c.loop-i.invariant.bits (subst (λ (f : List ℕ). IsBit f v) here (c.in-Ok.ensures taken.0 taken.2));
     }
