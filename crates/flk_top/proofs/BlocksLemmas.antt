@@ -1,20 +1,21 @@
 -- What each step does to the reading of a data file.
-use Rattle.std.proofs.Common.{◌≡◌, ℕ, ◌+◌, ◌-◌, ◌^◌, ◌<◌, ◌≤◌, List, [], ◌++◌, length, take, drop, Option, Some, None, refl, sym, ap, ◌∙◌, subst, arith, append_assoc, append-nil, length-append, length-take, length-drop}
+use Rattle.std.proofs.Common.{◌≡◌, ◌≢◌, ℕ, ◌+◌, ◌-◌, ◌^◌, ◌<◌, ◌≤◌, min, List, [], ◌++◌, length, take, drop, Option, Some, None, refl, sym, ap, ◌∙◌, subst, arith, append_assoc, append-nil, length-append, length-take, length-drop}
 use Rattle.std.specs.Prelude.{slice_range}
 use Rattle.std.specs.Io.KnownBytes.{Consumes}
 use Rattle.std.proofs.KnownBytes.{Consumes-nil, Consumes-trans}
 use Rattle.std.proofs.lemmas.List.{take-append-drop, drop-take, drop-drop}
 use Rattle.std.proofs.lemmas.List.FromFn.{length-map-range_with_len}
 use Rattle.flk_io.specs.Causes.{TakesAll}
+use Rattle.flk_cfg.specs.Valid.{IsValid}
 use Rattle.flk_cfg.specs.declared.config.Config.{Config}
-use Rattle.flk_dat.specs.Records.{DataRecord, Rows, Layout, layout_of, is_among, ArePresent}
+use Rattle.flk_dat.specs.Records.{DataRecord, Rows, Layout, layout_of, is_among, IsBlockFor, ArePresent}
 use Rattle.flk_dat.specs.DataFile.{AreFirst, IsAccepted}
 use Rattle.flk_dat.specs.Streams.{HasFault, EndsInFault, added, Grows}
 use Rattle.flk_dat.specs.States.{layout, Stands, FitsBlock as Fits}
 use Rattle.flk_dat.specs.declared.kind.DatFault.{DatFault}
 use Rattle.flk_dat.proofs.TakenBytes.{taken_length}
 use Rattle.flk_top.specs.Told.{MayHold}
-use Rattle.flk_top.specs.Blocks.{HasRead, Gives, Begins, EndsAs, block_of, records_of, unfed}
+use Rattle.flk_top.specs.Blocks.{HasRead, CanHold, Gives, Begins, EndsAs, block_of, records_of, unfed}
 use Rattle.flk_top.specs.declared.blocks.Blocks.{Blocks}
 use Rattle.flk_top.specs.declared.blocks.Progress.{Progress}
 use Rattle.flk_top.specs.declared.blocks.Progress.TheVariants.{Full, Ended, Fault}
@@ -69,6 +70,36 @@ fed_few l b bytes rs h =
 -- the block has a column for each of the configuration's analog channels
 pub analog_columns : (c : Config) (selected : List ℕ) (b : Blocks) (bytes : List ℕ) (rs : List DataRecord) → HasRead (layout_of c selected) b bytes rs → (block_of b).analog ≡ length c.analog
 analog_columns c selected b bytes rs h = h.fits.analog ∙ ap (λ (k : Layout). length k.selected) h.layout_is ∙ selected_count c selected
+
+-- an empty block of the configuration
+pub empty_can_hold : (c : Config) (selected : List ℕ) (b : Rows) → IsValid c → IsBlockFor c b → b.room ≡ min 65536 c.endsamp → CanHold (layout_of c selected) b
+empty_can_hold c selected b valid is room = record {
+  analog = is.analog ∙ sym (selected_count c selected);
+  digital = is.digital;
+  some = omega (arith, room, valid.endsamp_some);
+}
+
+-- the block is handed over for another one
+pub exchanged : (l : Layout) (old : Blocks) (other : Rows) (bytes : List ℕ) (rs : List DataRecord) → HasRead l old bytes rs → CanHold l other
+    → HasRead l (record old { block = other }) bytes rs × CanHold l (block_of old)
+exchanged l old other bytes rs h can =
+    let selected = ap (λ (k : Layout). length k.selected) h.layout_is in
+    let digital = ap (λ (k : Layout). k.digital) h.layout_is in (
+      record {
+        fed = h.fed;
+        bytes_are = h.bytes_are;
+        stands = h.stands;
+        count = h.count;
+        layout_is = h.layout_is;
+        few = h.few;
+        fits = record { analog = can.analog ∙ sym selected; digital = can.digital ∙ sym digital };
+        some = can.some;
+        in_order = h.in_order;
+        in_piece = h.in_piece;
+        size = h.size;
+      },
+      record { analog = h.fits.analog ∙ selected; digital = h.fits.digital ∙ digital; some = h.some },
+    )
 
 -- the block is emptied
 pub cleared : (l : Layout) (old new : Blocks) (bytes : List ℕ) (rs : List DataRecord) → HasRead l old bytes rs
@@ -225,11 +256,17 @@ gives_end Full l new bytes more rs left now took ends = absurd ends
 gives_end Ended l new bytes more rs left now took ends = (more, took, ends)
 gives_end (Fault f) l new bytes more rs left now took ends = (more, MayHold-all left now more took, ends)
 
+-- such data begin with the records that came, and no value of a selected channel is missing in them
+pub ends_begin : (p : Progress) (l : Layout) (bytes : List ℕ) (rs : List DataRecord) → EndsAs p l bytes rs → AreFirst l bytes rs × ArePresent l rs
+ends_begin Full l bytes rs ends = absurd ends
+ends_begin Ended l bytes rs ends = (ends.file.first, ends.present)
+ends_begin (Fault f) l bytes rs ends = (ends.here.first, ends.here.present)
+
 pub begins_end : (p : Progress) (l : Layout) (new : Blocks) (bytes more : List ℕ) (rs : List DataRecord) (left now : Option (List ℕ)) → TakesAll left now more → EndsAs p l (bytes ++ more) (rs ++ records_of new)
     → Begins l bytes (rs ++ records_of new) left
-begins_end Full l new bytes more rs left now took ends = absurd ends
-begins_end Ended l new bytes more rs left now took ends = (more, MayHold-all left now more took, ends.file.first, ends.present)
-begins_end (Fault f) l new bytes more rs left now took ends = (more, MayHold-all left now more took, ends.here.first, ends.here.present)
+begins_end p l new bytes more rs left now took ends =
+    let begin = ends_begin p l (bytes ++ more) (rs ++ records_of new) ends in
+    (more, MayHold-all left now more took, begin.0, begin.1)
 
 pub begins_fault : (l : Layout) (f : DatFault) (bytes : List ℕ) (rs : List DataRecord) (left : Option (List ℕ)) → (all : List ℕ) × MayHold left all × EndsInFault l (bytes ++ all) rs f → Begins l bytes rs left
 begins_fault l f bytes rs left given = (given.0, given.1, given.2.here.first, given.2.here.present)
@@ -284,3 +321,56 @@ pub come_few : (l : Layout) (old : Blocks) (Known : List DataRecord → Type 0) 
 come_few l old Known more left mid h begins =
     let given = begins l h.bytes h.records h.read in
     omega (arith, given.2.within, h.read.few, length-append h.records more)
+
+-- ---- a block that is read ahead
+
+-- of the data under a name: the records before the block that was filled last, what is known of these, and what that
+-- block told
+pub record HasFilled (p : Progress) (l : Layout) (b : Blocks) (Known : List DataRecord → Type 0) (left now : Option (List ℕ)) : Type 0 where
+  pub records : List DataRecord
+  pub known : Known records
+  pub gives : Gives p l [] records b left now
+  pub begins : Begins l [] (records ++ records_of b) left
+
+-- what a block tells of the data behind these bytes, it tells of the data
+gives_behind : (p : Progress) (l : Layout) (bytes : List ℕ) (rs : List DataRecord) (new : Blocks) (left mid now : Option (List ℕ)) → Consumes left mid bytes → Gives p l bytes rs new mid now
+    → Gives p l [] rs new left now
+gives_behind Full l bytes rs new left mid now took given = (bytes ++ given.0, Consumes-trans left mid now bytes given.0 took given.1, given.2, given.3)
+gives_behind Ended l bytes rs new left mid now took given = (bytes ++ given.0, (Consumes-trans left mid now bytes given.0 took given.1.0, given.1.1), given.2)
+gives_behind (Fault f) l bytes rs new left mid now took given = (bytes ++ given.0, MayHold-taken left mid bytes given.0 took given.1, given.2)
+
+-- the block was handed over, and the next one was filled
+pub filled_more : (p : Progress) (l : Layout) (old mid new : Blocks) (Known After : List DataRecord → Type 0) (left here now : Option (List ℕ)) (h : HasFilled Full l old Known left here)
+    → ((bytes : List ℕ) (rs : List DataRecord) → HasRead l old bytes rs → HasRead l mid bytes rs)
+    → ((k : Layout) (bytes : List ℕ) (rs : List DataRecord) → HasRead k mid bytes rs → Gives p k bytes rs new here now)
+    → ((k : Layout) (bytes : List ℕ) (rs : List DataRecord) → HasRead k mid bytes rs → Begins k bytes (rs ++ records_of new) here)
+    → After (h.records ++ records_of old) → HasFilled p l new After left now
+filled_more p l old mid new Known After left here now h same gives begins after =
+    let given = h.gives in
+    let rs = h.records ++ records_of old in
+    let read = same given.0 rs given.2 in
+    let more = begins l given.0 rs read in
+    record {
+      records = rs;
+      known = after;
+      gives = gives_behind p l given.0 rs new left here now given.1 (gives l given.0 rs read);
+      begins = (given.0 ++ more.0, MayHold-taken left here given.0 more.0 given.1 more.1, more.2, more.3);
+    }
+
+-- no block follows
+pub filled_last : (p : Progress) (l : Layout) (b : Blocks) (Known : List DataRecord → Type 0) (left now : Option (List ℕ)) (h : HasFilled p l b Known left now) → p ≢ Full
+    → (bytes : List ℕ) × MayHold left bytes × EndsAs p l bytes (h.records ++ records_of b)
+filled_last Full l b Known left now h last = absurd (last refl)
+filled_last Ended l b Known left now h last = (h.gives.0, MayHold-all left now h.gives.0 h.gives.1, h.gives.2)
+filled_last (Fault f) l b Known left now h last = h.gives
+
+-- how many bytes may be fed before no block follows
+abbrev pub feeds_left : Progress → (fed : ℕ) → ℕ
+feeds_left Full fed = 2 ^ 47 - fed
+feeds_left Ended fed = 0
+feeds_left (Fault f) fed = 0
+
+pub fewer_left : (p : Progress) (old new : ℕ) → old < 2 ^ 47 → (p ≡ Full → old < new) → feeds_left p new < 2 ^ 47 - old
+fewer_left Full old new few further = omega (arith, few, further refl)
+fewer_left Ended old new few further = omega (arith, few)
+fewer_left (Fault f) old new few further = omega (arith, few)

@@ -1,5 +1,5 @@
 -- From the samples that phases take to the records of a job's channels.
-use Rattle.std.proofs.Common.{◌≡◌, ◌⊎◌, ℕ, ◌+◌, ◌-◌, ◌^◌, ◌<◌, ◌≤◌, List, [], ◌∷◌, ◌++◌, length, map, take, drop, set, get_or, pos, ℤ, Option, Some, None, IfSome, IfNone, refl, sym, ap, ◌∙◌, subst, arith, ⊎_elim, inl, inr, length-append}
+use Rattle.std.proofs.Common.{◌≡◌, ◌⊎◌, ℕ, ◌+◌, ◌-◌, ◌^◌, ◌<◌, ◌≤◌, List, [], ◌∷◌, ◌++◌, length, map, take, drop, set, get_or, pos, ℤ, Option, Some, None, refl, sym, ap, ◌∙◌, subst, arith, ⊎_elim, inl, inr, length-append}
 use Rattle.std.specs.Prelude.{slice_index_or}
 use Rattle.std.specs.List.{AllZip}
 use Rattle.std.proofs.lemmas.Bool.{cases_lt}
@@ -30,7 +30,7 @@ use Rattle.flk_phase.specs.Taking.{Takes}
 use Rattle.flk_phase.specs.declared.phase.Phase.{Phase}
 use Rattle.flk_top.specs.Matching.{sample_of, recorded_voltages}
 use Rattle.flk_top.specs.ReportDue.{setup_of, IsOverAt, AreWithinRangeBefore, AreWithinRange, IsFirstOverOf, IsResultOf, AreResults}
-use Rattle.flk_top.specs.Working.{IsFirstOverOfPhases, IsPhaseOf, HasColumn, TakesSamples, IsEndOf, ArePhasesOf, HaveWorked, AreReserved, IsReserved, TakeRecords, NoneIsOver, IsFirstPhaseOver, CanWork, IsOverTold}
+use Rattle.flk_top.specs.Working.{IsFirstOverOfPhases, IsPhaseOf, HasColumn, TakesSamples, IsEndOf, ArePhasesOf, HaveWorked, AreReserved, IsReserved, TakeRecords, NoneIsOver, IsFirstPhaseOver, CanWork, AreWorked, IsOverTold}
 
 -- ---- the voltages of a channel
 
@@ -468,15 +468,9 @@ pub can_few : (phases : List Phase) (b : Rows) → CanWork phases b → (i : ℕ
 can_few phases b can i d less = omega (arith, (can.worked.have_columns i d less).taken, can.few)
 
 -- a block of which no phase finds a sample over range, or one finds it
-pub block_within : (old new : List Phase) (more : List DataRecord) (o : Option (ℕ × ℕ)) → TakeRecords old new more → IsFirstOverOfPhases new (length new) o
-    → IfNone o ((j : Job) (c : Config) (filter : FilterNumbers) (rs : List DataRecord) → HaveWorked j c filter old rs → HaveWorked j c filter new (rs ++ more))
-block_within old new more None takes none = λ j c filter rs h. worked_more j c filter old new rs more h takes none
-block_within old new more (Some found) takes first = tt
-
-pub block_found : (old new : List Phase) (more : List DataRecord) (o : Option (ℕ × ℕ)) → TakeRecords old new more → IsFirstOverOfPhases new (length new) o
-    → IfSome o (λ found. (j : Job) (c : Config) (filter : FilterNumbers) (rs : List DataRecord) → HaveWorked j c filter old rs → IsOverTold j c (rs ++ more) found.0 found.1)
-block_found old new more None takes none = tt
-block_found old new more (Some found) takes first = λ j c filter rs h. block_over j c filter old new rs more found.0 found.1 h takes first
+pub block_worked : (old new : List Phase) (more : List DataRecord) (o : Option (ℕ × ℕ)) → TakeRecords old new more → IsFirstOverOfPhases new (length new) o → AreWorked old new more o
+block_worked old new more None takes none = λ j c filter rs h. worked_more j c filter old new rs more h takes none
+block_worked old new more (Some found) takes first = λ j c filter rs h. block_over j c filter old new rs more found.0 found.1 h takes first
 
 -- a list that is written back whole
 pub written_back : {A : Type 0} (n : ℕ) (new old : List A) → length new ≡ length old → n ≡ length old → take n (new ++ drop (length new) old) ≡ new

@@ -1,7 +1,8 @@
 -- A data file that is read block by block: what has come of its bytes so far, and what one more block tells.
-use Rattle.std.specs.Prelude.{◌≡◌, ℕ, ◌^◌, ◌<◌, ◌≤◌, List, ◌++◌, length, slice_range, Option}
+use Rattle.std.specs.Prelude.{◌≡◌, ℕ, ◌^◌, ◌<◌, ◌≤◌, List, ◌++◌, length, slice_range, Option, Result, IfOk, OnOk}
 use Rattle.std.specs.Io.KnownBytes.{Consumes}
-use Rattle.flk_io.specs.Causes.{TakesAll}
+use Rattle.flk_io.specs.Causes.{TakesAll, HasCause}
+use Rattle.flk_io.specs.Told.{ShelfTold, OnlyReads, ReadsUnder}
 use Rattle.flk_dat.specs.Records.{DataRecord, Rows, Layout, ArePresent}
 use Rattle.flk_dat.specs.DataFile.{AreFirst, IsAccepted}
 use Rattle.flk_dat.specs.Streams.{EndsInFault}
@@ -42,6 +43,12 @@ pub record HasRead (l : Layout) (b : Blocks) (bytes : List ℕ) (rs : List DataR
   pub in_piece : b.end ≤ length b.piece.items
   pub size : length b.piece.items ≡ 65536
 
+-- the block has columns for data of this layout, and room for a record
+pub record CanHold (l : Layout) (b : Rows) : Type 0 where
+  pub analog : b.analog ≡ length l.selected
+  pub digital : b.digital ≡ l.digital
+  pub some : 0 < b.room
+
 -- the data are these bytes: they are accepted, or have this first fault
 abbrev pub EndsAs : Progress → Layout → (bytes : List ℕ) → (rs : List DataRecord) → Type 0
 EndsAs Full l bytes rs = ⊥
@@ -65,3 +72,17 @@ Gives (Fault f) l bytes rs new left now =
 -- missing in them
 abbrev pub Begins : Layout → (bytes : List ℕ) → (rs : List DataRecord) → (left : Option (List ℕ)) → Type 0
 Begins l bytes rs left = (more : List ℕ) × MayHold left more × AreFirst l (bytes ++ more) rs × ArePresent l rs
+
+-- what a call for one more block of the data under a name does, or a read that fails in it (before, now: what is told
+-- of the shelf)
+pub record ReadsOn {E : Type 0} (name : List ℕ) (old new : Blocks) (before now : ShelfTold) (result : Result Progress E)
+    : Type 0 where
+  pub gives : IfOk result (λ p. (l : Layout) (bytes : List ℕ) (rs : List DataRecord) → HasRead l old bytes rs
+      → Gives p l bytes rs new (before.left name) (now.left name))
+  pub begins : OnOk result ((l : Layout) (bytes : List ℕ) (rs : List DataRecord) → HasRead l old bytes rs
+      → Begins l bytes (rs ++ records_of new) (before.left name))
+  pub further : IfOk result (λ p. p ≡ Full → fed_count old < fed_count new)
+  pub columns : (block_of new).analog ≡ (block_of old).analog
+  pub cause : HasCause before.read_faults now.read_faults result
+  pub only_reads : OnlyReads before now
+  pub others : ReadsUnder name before now

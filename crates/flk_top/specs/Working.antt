@@ -16,7 +16,9 @@ use Rattle.flk_phase.specs.Phase.{conditions_of, scale_of, channel_of, over_of, 
 use Rattle.flk_phase.specs.Phase.{column_of, told_by, Stands}
 use Rattle.flk_phase.specs.Taking.{IsMadeAlike, IsSamePhase}
 use Rattle.flk_phase.specs.declared.phase.Phase.{Phase}
-use Rattle.flk_top.specs.ReportDue.{conditions_in, AreWithinRange, IsFirstOverOf}
+use Rattle.flk_top.specs.Blocks.{EndsAs}
+use Rattle.flk_top.specs.ReportDue.{conditions_in, AreWithinRange, IsFirstOverOf, job_layout}
+use Rattle.flk_top.specs.declared.blocks.Progress.{Progress}
 
 -- ---- one phase
 
@@ -128,3 +130,21 @@ pub record IsOverTold (j : Job) (c : Config) (rs : List DataRecord) (number turn
   pub some : 1 ≤ number
   pub there : turn < length j.channels
   pub first : (none : ℕ) → IsFirstOverOf j c rs (number - 1) (slice_index_or j.channels turn none)
+
+-- What the phases of a job, which have taken some records, come to by those of a block: they take them too, or are told
+-- a sample over range.
+abbrev pub AreWorked : (old new : List Phase) → (more : List DataRecord) → Option (ℕ × ℕ) → Type 0
+AreWorked old new more None =
+    (j : Job) (c : Config) (filter : FilterNumbers) (rs : List DataRecord) → HaveWorked j c filter old rs
+    → HaveWorked j c filter new (rs ++ more)
+AreWorked old new more (Some found) =
+    (j : Job) (c : Config) (filter : FilterNumbers) (rs : List DataRecord) → HaveWorked j c filter old rs
+    → IsOverTold j c (rs ++ more) found.0 found.1
+
+-- The phases have taken some records of the data of these bytes, and the last block holds the others: all that are
+-- accepted, or those before the first fault.
+pub record AreLast (p : Progress) (j : Job) (c : Config) (filter : FilterNumbers) (phases : List Phase)
+    (more : List DataRecord) (bytes : List ℕ) : Type 0 where
+  pub records : List DataRecord
+  pub worked : HaveWorked j c filter phases records
+  pub ends : EndsAs p (job_layout j c) bytes (records ++ more)

@@ -1,6 +1,6 @@
 //! The records of a data file, one block after another.
 
-ghost use Rattle.std.specs.Prelude.{◌≡◌, ℕ, ◌+◌, ◌<◌, ◌≤◌, List, [], ◌++◌, length, min, IfOk, IfErr, OnOk, IsTrue, IsFalse};
+ghost use Rattle.std.specs.Prelude.{◌≡◌, ℕ, ◌+◌, ◌<◌, List, [], ◌++◌, length, min, IfOk, IfErr, OnOk, IsTrue, IsFalse};
 ghost use Rattle.std.specs.Io.KnownBytes.{Consumes, IsAtEnd};
 ghost use Rattle.flk_io.specs.Causes.{HasCause};
 ghost use Rattle.flk_io.specs.Told.{OnlyReads, ReadsUnder};
@@ -8,12 +8,13 @@ ghost use Rattle.flk_cfg.specs.Valid.{IsValid};
 ghost use Rattle.flk_dat.specs.Records.{DataRecord, Layout, layout_of, IsBlockFor};
 ghost use Rattle.flk_dat.specs.Streams.{HasFault};
 ghost use Rattle.flk_top.specs.declared.blocks.Progress.TheVariants as progress;
-ghost use Rattle.flk_top.specs.Blocks.{HasRead, Gives, Begins, EndsAs, block_of, records_of, fed_count};
+ghost use Rattle.flk_top.specs.Blocks.{HasRead, CanHold, Gives, Begins, EndsAs, block_of, records_of, fed_count};
 
 use flk_cfg::Config;
 use flk_dat::{Block, DatFault, Reader};
 use flk_io::{Failed, OutOfMemory, Shelf};
 use std::alloc::Global;
+use std::mem;
 
 /// How many bytes one read is asked for.
 const PIECE: usize = 65_536;
@@ -30,6 +31,15 @@ pub enum Progress {
     Ended,
     /// The file has this first fault. The records before it came.
     Fault(DatFault),
+}
+
+/// An empty block for the records of a configuration: for 65,536 of them, or for all where they are fewer.
+pub fn empty_block(alloc: Global, config: &Config) -> Result<Block, OutOfMemory>
+    requires { IsValid config.now }
+    ensures columns { IfOk result (λ b. IsBlockFor config.now b) }
+    ensures room { IfOk result (λ b. b.room ≡ min 65536 config.now.endsamp) }
+{
+    Block::new(alloc, config, ROWS.min(config.endsamp as usize))
 }
 
 /// A data file, which is read in pieces of at most 65,536 bytes and gives its records in blocks of at most 65,536.
@@ -55,7 +65,7 @@ impl Blocks {
     {
         Ok(Blocks {
             reader: Reader::new(alloc, config, selected)?,
-            block: Block::new(alloc, config, ROWS.min(config.endsamp as usize))?,
+            block: empty_block(alloc, config)?,
             piece: vec![in alloc; 0; PIECE]?,
             at: 0,
             end: 0,
@@ -97,6 +107,16 @@ impl Blocks {
         ensures { result.now ≡ block_of self.now }
     {
         &self.block
+    }
+
+    /// Hands over the block that was filled last, and takes another one to fill.
+    pub fn exchange(&mut self, other: &mut Block)
+        ensures read { (l : Layout) (bytes : List ℕ) (rs : List DataRecord) → HasRead l self.old bytes rs
+            → CanHold l other.old → HasRead l self.new bytes rs × CanHold l other.new }
+        ensures filled { other.new ≡ block_of self.old }
+        ensures fed { fed_count self.new ≡ fed_count self.old }
+    {
+        mem::swap(&mut self.block, other);
     }
 
     // Reads the next piece where the last one was fed. False is the end of the file.

@@ -4,12 +4,12 @@
 //! is one relation: `report` (`specs/ReportDue`), `levels` (`specs/LevelsDue`), `check` (`specs/CheckDue`), `tables`
 //! (`specs/Tables`) and `gen` (`specs/GenDue`); `specs/Answer` is their table. `report` reads a job first (`job`). A
 //! command reads its configuration (`configuration`) and then its data, in pieces and blocks of records (`blocks`).
-//! `report` has one phase for each channel of the job, and all take each block, in threads (`phases`). `levels` finds
-//! how its channel is measured (`matching`), turns each sample into the interval of its voltages by the channel's
-//! scale, and keeps the least and the greatest value (`measure`) of the half-periods into which `flk_half` cuts them.
-//! `tables` reads nothing: it makes the certificates of a lamp's sections, and bounds the sections in a row
-//! (`certified`). `gen` reads nothing either: it appends the files of a generated recording (`generate`). The answer is
-//! composed whole (`text`, `faults`, `reply`) before `run` writes it.
+//! `report` has one phase for each channel of the job, and all take each block, in threads (`phases`), while the next
+//! block is read. `levels` finds how its channel is measured (`matching`), turns each sample into the interval of its
+//! voltages by the channel's scale, and keeps the least and the greatest value (`measure`) of the half-periods into
+//! which `flk_half` cuts them. `tables` reads nothing: it makes the certificates of a lamp's sections, and bounds the
+//! sections in a row (`certified`). `gen` reads nothing either: it appends the files of a generated recording
+//! (`generate`). The answer is composed whole (`text`, `faults`, `reply`) before `run` writes it.
 //!
 //! What is promised of a run, whatever its command is, stands in `specs/Run`: what is written and appended is due for
 //! some files that agree with all that is told of them. That some answer is due, and one alone, that the promises on

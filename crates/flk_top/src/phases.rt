@@ -1,22 +1,18 @@
 //! The phases of a report: one for each channel of the job.
 
-ghost use Rattle.std.specs.Prelude.{◌≡◌, ℕ, ◌+◌, ◌^◌, ◌<◌, ◌≤◌, List, [], ◌++◌, length, slice_index_or, IfOk, OnOk, IfSome, IfNone, Some, true};
+ghost use Rattle.std.specs.Prelude.{◌≡◌, ℕ, ◌+◌, ◌^◌, ◌<◌, ◌≤◌, List, [], length, slice_index_or, IfOk, OnOk, true};
 ghost use Rattle.std.specs.List.{AllZip};
 ghost use Rattle.flk_num.specs.Rate.{sampling_interval};
-ghost use Rattle.flk_cfg.specs.declared.config.Config.{Config as ConfigView};
 ghost use Rattle.flk_job.specs.Job.{AreInSets};
 ghost use Rattle.flk_job.specs.Matching.{IsMatch};
-ghost use Rattle.flk_job.specs.declared.job.Job.{Job as JobView};
-ghost use Rattle.flk_dat.specs.Records.{DataRecord};
 ghost use Rattle.flk_design.specs.Lamp.{constants_of};
 ghost use Rattle.flk_design.specs.Design.{IsDesign};
-ghost use Rattle.flk_section.specs.Filter.{FilterNumbers};
 ghost use Rattle.flk_section.specs.Whole.{numbers_of};
 ghost use Rattle.flk_phase.specs.Phase.{channel_of, over_of, taken_of};
 ghost use Rattle.flk_phase.specs.declared.phase.Phase.{Phase as PhaseView};
 ghost use Rattle.flk_top.specs.ReportDue.{setup_of as setup_in};
 ghost use Rattle.flk_top.specs.Working.{HaveWorked, AreReserved, TakeRecords, IsFirstOverOfPhases};
-ghost use Rattle.flk_top.specs.Working.{CanWork, IsOverTold, IsReady, IsEndOf};
+ghost use Rattle.flk_top.specs.Working.{CanWork, AreWorked, IsReady, IsEndOf};
 
 use flk_cfg::Config;
 use flk_dat::Block;
@@ -149,12 +145,7 @@ pub fn work_block<R: Threads + Sync, G: Gate + Sync>(
     requires workers { (1 ≤ workers) × (workers ≤ 16) }
     requires ready { CanWork phases.old.items block.now }
     requires gate { (i : ℕ) → i < length phases.old.items → G.admits gate.now i ≡ true }
-    ensures within { IfOk result (λ o. IfNone o ((j : JobView) (c : ConfigView) (filter : FilterNumbers)
-        (rs : List DataRecord) → HaveWorked j c filter phases.old.items rs
-        → HaveWorked j c filter phases.new.items (rs ++ block.now.records))) }
-    ensures over { IfOk result (λ o. IfSome o (λ found. (j : JobView) (c : ConfigView) (filter : FilterNumbers)
-        (rs : List DataRecord) → HaveWorked j c filter phases.old.items rs
-        → IsOverTold j c (rs ++ block.now.records) found.0 found.1)) }
+    ensures { IfOk result (AreWorked phases.old.items phases.new.items block.now.records) }
 {
     take_block(rt, phases, block, workers, gate)?;
     Ok(first_over(phases))

@@ -1,6 +1,7 @@
-//! Reading that waits for the work, and a configuration that claims far more records than there are.
+//! Reading that waits for the work or goes on beside it, and a configuration that claims far more records than there
+//! are.
 
-use crate::report_tests::{shelf_of, short_job};
+use crate::report_tests::{answer_of, shelf_of, short_job};
 use crate::tests::{varied, wave, words_of};
 use crate::{Gate, run};
 use flk_io::{Failed, MemShelf, MemSink, Shelf};
@@ -22,19 +23,25 @@ struct Course {
     long_reads: AtomicU64,
     // How many bytes of the data were read.
     given: AtomicU64,
-    // How many blocks were worked, and before how many of them more was read than these blocks and one read.
+    // How many blocks were worked; and at how many of them more was read than these blocks and one read, and more than
+    // one block more.
     blocks: AtomicU64,
     read_ahead: AtomicU64,
+    far_ahead: AtomicU64,
+    // How often a block looks whether more was read, before it is worked.
+    looks: u32,
 }
 
 impl Course {
-    fn new() -> Course {
+    fn new(looks: u32) -> Course {
         Course {
             reads: AtomicU64::new(0),
             long_reads: AtomicU64::new(0),
             given: AtomicU64::new(0),
             blocks: AtomicU64::new(0),
             read_ahead: AtomicU64::new(0),
+            far_ahead: AtomicU64::new(0),
+            looks,
         }
     }
 }
@@ -51,8 +58,15 @@ impl Gate for Course {
             .wrapping_add(1)
             .wrapping_mul(BLOCK)
             .wrapping_add(PIECE);
-        if most < self.given.load(Ordering::SeqCst) {
-            self.read_ahead.fetch_add(1, Ordering::SeqCst);
+        for _ in 0..self.looks {
+            let given = self.given.load(Ordering::SeqCst);
+            if most.wrapping_add(BLOCK) < given {
+                self.far_ahead.fetch_add(1, Ordering::SeqCst);
+            }
+            if most < given {
+                self.read_ahead.fetch_add(1, Ordering::SeqCst);
+                return;
+            }
         }
     }
 }
@@ -93,7 +107,7 @@ fn reading_waits_for_the_work(rt: HostRuntime) -> Result<(), Fail> {
     let job = short_job(alloc, "", "")?;
     let configuration = varied(alloc, "2400,4800", "2400,300000")?;
     let data = wave(alloc, 300_000)?;
-    let course = Course::new();
+    let course = Course::new(1);
     let mut shelf = Watched {
         files: shelf_of(alloc, job.as_str(), configuration.as_str(), &data)?,
         course: &course,
@@ -108,6 +122,55 @@ fn reading_waits_for_the_work(rt: HostRuntime) -> Result<(), Fail> {
     Ok(())
 }
 
+// With two workers each of the four waits until the next one is read, and no more than that is.
+#[test]
+fn the_next_block_is_read_beside_the_work(rt: HostRuntime) -> Result<(), Fail> {
+    let alloc = rt.alloc();
+    let job = short_job(alloc, "", "")?;
+    let configuration = varied(alloc, "2400,4800", "2400,300000")?;
+    let data = wave(alloc, 300_000)?;
+    let course = Course::new(100_000_000);
+    let mut shelf = Watched {
+        files: shelf_of(alloc, job.as_str(), configuration.as_str(), &data)?,
+        course: &course,
+    };
+    let words = words_of(alloc, "report J C D 2")?;
+    let mut sink = MemSink::new(alloc, 3000, 500)?;
+    assert_eq!(rt; run(&rt, alloc, &words, &mut shelf, &mut sink, &course), 0);
+    assert_eq!(rt; course.given.load(Ordering::SeqCst), 300_000 * RECORD);
+    assert_eq!(rt; course.blocks.load(Ordering::SeqCst), 5);
+    assert_eq!(rt; course.read_ahead.load(Ordering::SeqCst), 4);
+    assert_eq!(rt; course.far_ahead.load(Ordering::SeqCst), 0);
+    assert_eq!(rt; course.long_reads.load(Ordering::SeqCst), 0);
+    Ok(())
+}
+
+// In the first block a sample may be over range; the second one, which is read by then, may be cut off, or its first
+// read may fail. A failed read is told first, and then the block that came first.
+#[test]
+fn faults_of_two_blocks(rt: HostRuntime) -> Result<(), Fail> {
+    let alloc = rt.alloc();
+    let within = short_job(alloc, "", "")?;
+    let over = short_job(alloc, "230000", "50000")?;
+    let configuration = varied(alloc, "2400,4800", "2400,70000")?;
+    let data = wave(alloc, 66_000)?;
+    for line in ["report J C D 1", "report J C D 2", "report J C D 16"] {
+        for (job, call, status, fault) in [
+            (&within, 99, 2, "fault data 66001 0 5\n"),
+            (&within, 15, 4, "fault read\n"),
+            (&over, 99, 2, "fault range 1 1\n"),
+            (&over, 15, 4, "fault read\n"),
+        ] {
+            let mut shelf = shelf_of(alloc, job.as_str(), configuration.as_str(), &data)?;
+            shelf.fail_at(call)?;
+            let (answered, text) = answer_of(&rt, alloc, &mut shelf, line)?;
+            assert_eq!(rt; answered, status, "{line} {fault}");
+            assert_eq!(rt; text.as_slice(), fault.as_bytes(), "{line}");
+        }
+    }
+    Ok(())
+}
+
 // Twenty million records are claimed, and one is there. Two reads take each file, and no read is made ready for more
 // than is usual.
 #[test]
@@ -116,7 +179,7 @@ fn a_claim_of_twenty_million_records(rt: HostRuntime) -> Result<(), Fail> {
     let job = short_job(alloc, "", "")?;
     let configuration = varied(alloc, "2400,4800", "2400,20000000")?;
     let data = wave(alloc, 1)?;
-    let course = Course::new();
+    let course = Course::new(1);
     let mut shelf = Watched {
         files: shelf_of(alloc, job.as_str(), configuration.as_str(), &data)?,
         course: &course,

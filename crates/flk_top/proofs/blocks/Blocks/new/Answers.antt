@@ -3,7 +3,7 @@ use Rattle.flk_top.proofs.blocks.Blocks.new.Goals as goal
 
 pub returns-clause-nothing : goal.returns-clause-nothing
 returns-clause-nothing c =
-    let block = c.in_ok-new-2.ensures in
+    let block = c.in_ok-empty_block.ensures in
     record {
       fed = [];
       bytes_are = refl;
@@ -11,8 +11,8 @@ returns-clause-nothing c =
       count = refl;
       layout_is = c.in_ok-new.ensures.layout;
       few = omega (arith, c.requires.endsamp_most);
-      fits = c.in_ok-new.ensures.fits _ block.0;
-      some = omega (arith, block.1, c.min.ensures, c.requires.endsamp_some);
+      fits = c.in_ok-new.ensures.fits _ block.columns;
+      some = omega (arith, block.room, c.requires.endsamp_some);
       in_order = omega arith;
       in_piece = omega arith;
       size = search rules;
