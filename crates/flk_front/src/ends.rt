@@ -26,8 +26,8 @@ pub fn rounded_squares(v: Interval) -> Ends
 {
     let squares = exact_squares(v);
     Ends {
-        lo: squares.least >> 48,
-        hi: squares.greatest.div_ceil(1 << 48),
+        lo: u128::from((squares.least >> 48) as u64),
+        hi: u128::from(squares.greatest.div_ceil(1 << 48) as u64),
     }
 }
 
@@ -96,11 +96,10 @@ pub fn divisor(mean: Ends) -> Ends
 }
 
 // A square of units of 2^-48 in units of 2^-112, so that its quotient by units of 2^-64 is in units of 2^-48.
-fn dividend(square: u128) -> u128
-    requires { 2 * square ≤ 33 * 2 ^ 48 }
+fn dividend(square: u64) -> u128
     ensures { result ≡ square * 2 ^ 64 }
 {
-    square << 64
+    u128::from(square) << 64
 }
 
 const TWO_TO_52: f64 = 4503599627370496.0;
@@ -109,7 +108,7 @@ const TWO_TO_47: f64 = 140737488355328.0;
 
 // A whole number near `square * 2^64 / divisor`, by arithmetic in double precision. Nothing rests on how near: what its
 // product leaves of the dividend tells whether it is the quotient.
-fn guess(square: u128, divisor: u128) -> u128
+fn guess(square: u64, divisor: u128) -> u64
     requires square_small { 2 * square ≤ 33 * 2 ^ 48 }
     requires divisor_small { divisor ≤ 17 * 2 ^ 64 }
     ensures { result < 2 ^ 52 }
@@ -120,11 +119,11 @@ fn guess(square: u128, divisor: u128) -> u128
     } else {
         square as i64 as f64 * TWO_TO_47 / (divisor >> 17) as i64 as f64
     };
-    u128::from(whole_near(quotient))
+    whole_near(quotient)
 }
 
 // `square * 2^64 / divisor`, rounded down.
-fn quotient_down(square: u128, divisor: u128) -> u128
+fn quotient_down(square: u64, divisor: u128) -> u64
     requires square_small { 2 * square ≤ 33 * 2 ^ 48 }
     requires divisor_low { 2 ^ 62 ≤ divisor }
     requires divisor_small { divisor ≤ 17 * 2 ^ 64 }
@@ -132,7 +131,7 @@ fn quotient_down(square: u128, divisor: u128) -> u128
 {
     let dividend = dividend(square);
     let guess = guess(square, divisor);
-    let product = guess * divisor;
+    let product = u128::from(guess) * divisor;
     if product <= dividend {
         if dividend - product < divisor {
             return guess;
@@ -140,11 +139,11 @@ fn quotient_down(square: u128, divisor: u128) -> u128
     } else if product - dividend <= divisor {
         return guess - 1;
     }
-    dividend / divisor
+    (dividend / divisor) as u64
 }
 
 // `square * 2^64 / divisor`, rounded up.
-fn quotient_up(square: u128, divisor: u128) -> u128
+fn quotient_up(square: u64, divisor: u128) -> u64
     requires square_small { 2 * square ≤ 33 * 2 ^ 48 }
     requires divisor_low { 2 ^ 62 ≤ divisor }
     requires divisor_small { divisor ≤ 17 * 2 ^ 64 }
@@ -152,7 +151,7 @@ fn quotient_up(square: u128, divisor: u128) -> u128
 {
     let dividend = dividend(square);
     let guess = guess(square, divisor);
-    let product = guess * divisor;
+    let product = u128::from(guess) * divisor;
     if product < dividend {
         if dividend - product <= divisor {
             return guess + 1;
@@ -160,7 +159,7 @@ fn quotient_up(square: u128, divisor: u128) -> u128
     } else if product - dividend < divisor {
         return guess;
     }
-    dividend.div_ceil(divisor)
+    dividend.div_ceil(divisor) as u64
 }
 
 /// The quotients of the squares and the divisor, in units of 2^-48, rounded down and up.
@@ -175,7 +174,7 @@ pub fn quotients(squares: Ends, divisor: Ends) -> Ends
     ensures small { result.hi ≤ 66 * 2 ^ 48 }
 {
     Ends {
-        lo: quotient_down(squares.lo, divisor.hi),
-        hi: quotient_up(squares.hi, divisor.lo),
+        lo: u128::from(quotient_down(squares.lo as u64, divisor.hi)),
+        hi: u128::from(quotient_up(squares.hi as u64, divisor.lo)),
     }
 }
