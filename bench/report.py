@@ -8,9 +8,10 @@ values as BINARY, and a job of the standard's times: a run-in of 60 seconds and 
 same rules and integer arithmetic (plain), one that prints the same by faster arithmetic of whole numbers (fast), and one in double precision
 without intervals (double). All report on each with 1, 2 and 4 workers, RUNS times (5) in turn. All but double must print the same and end with the
 same status. Printed are for each the least processor time, the least time by the clock and the greatest peak of memory, and the ratios of
-processor times; then how much faster four workers are than one. The goals stand beside. At the end it compares the peaks of memory on a tenth
-of the records and on all of them, both with a run-in of 6 seconds and intervals of 60. It builds the plain programs by cargo. `flicker` is
-the built program (`./flicker` builds it), or another one as PROGRAM; where there is none, the plain ones are compared alone."""
+processor times; then how much faster four workers are than one, and how many processors the machine gives to four programs. The goals
+stand beside. At the end it compares the peaks of memory on a tenth of the records and on all of them, both with a run-in of 6 seconds and
+intervals of 60. It builds the plain programs by cargo. `flicker` is the built program (`./flicker` builds it), or another one as PROGRAM;
+where there is none, the plain ones are compared alone."""
 import os
 import struct
 import subprocess
@@ -90,6 +91,20 @@ def ratios(best):
     return {"%s/%s" % pair: best[pair[0]][0] / best[pair[1]][0] for pair in pairs}
 
 
+def processors(folder, program, form, runs):
+    """How many processors the machine gives to four runs with one worker each, side by side: what four workers can gain at most."""
+    words = [program, "report", "long.toml", form + ".cfg", form + ".dat", "1"]
+
+    def clock(count):
+        start = time.monotonic()
+        for child in [subprocess.Popen(words, cwd=folder, stdout=subprocess.DEVNULL) for _ in range(count)]:
+            child.wait()
+        return time.monotonic() - start
+
+    alone = min(clock(1) for _ in range(runs))
+    return 4 * alone / min(clock(4) for _ in range(runs))
+
+
 def compare(folder, all_of, form, runs):
     """Prints the lines of a form, and answers the ratios with one worker."""
     best = {workers: measured(folder, all_of, "long", form, workers, runs) for workers in WORKERS}
@@ -99,6 +114,8 @@ def compare(folder, all_of, form, runs):
     gains = ["%s %.2f" % (name, best[1][name][1] / best[4][name][1]) for name in all_of]
     goal = " (goal of flicker: at least %.2f)" % SPEED_GOAL if form == "BINARY" and "flicker" in all_of else ""
     print("%-6s four workers over one, by the clock: %s%s" % (form, ", ".join(gains), goal))
+    first = next(iter(all_of))
+    print("%-6s four runs of %s side by side, with one worker each, had %.2f processors" % (form, first, processors(folder, all_of[first], form, runs)))
     return ratios(best[1])
 
 
