@@ -10,6 +10,8 @@ pub mod WidthLemmas
 pub mod SeverityLemmas
 pub mod SeverityWidth
 pub mod LongTermLemmas
+pub mod BucketLemmas
+pub mod WalkLemmas
 pub mod SelectionLemmas
 pub mod LevelLemmas
 pub mod ShiftLemmas

@@ -1,6 +1,6 @@
 -- Ranks of whole numbers and of fractions: that they are one, that they keep the order, where they stand in a list in rising order, and
 -- that whole numbers of units have the same ranks as fractions.
-use Rattle.std.proofs.Common.{◌≡◌, ℕ, ◌+◌, ◌*◌, ◌-◌, ◌<◌, ◌≤◌, Bool, true, false, not, cond, List, length, map, get_or, take, drop, sym, ap, subst, ◌∙◌, arith, mul-pos, mul-le-mul_right, length-drop, length-take, get_or-drop, get_or-take}
+use Rattle.std.proofs.Common.{◌≡◌, ℕ, ◌+◌, ◌*◌, ◌-◌, ◌<◌, ◌≤◌, Bool, true, false, not, cond, List, length, map, get_or, take, drop, sym, ap, ◌∙◌, arith, mul-pos, mul-le-mul_right, length-drop, length-take, get_or-drop, get_or-take}
 use Rattle.std.specs.Prelude.{ℤ, pos, ◌*ℤ◌, ◌≤ℤ◌, ◌<ℤ◌, ◌^◌, int_lt}
 use Rattle.std.specs.List.{All, AllZip}
 use Rattle.std.specs.List.Sorted.{IsSorted}
@@ -16,13 +16,13 @@ use Rattle.std.proofs.lemmas.List.Sorted.{sorted_far, ranks_by}
 use Rattle.std.proofs.lemmas.List.Sums.{sum_by-take-drop, count_by-le-length}
 use Rattle.flk_exact.specs.Fraction.{Fraction, ◌≤ℚ◌, ◌≈ℚ◌, units}
 use Rattle.flk_exact.proofs.FractionLemmas.{≤ℚ-refl, ≤ℚ-trans, ≤ℚ-both}
-use Rattle.flk_exact.proofs.ListLemmas.{AllZip-weaker, Contains-map, Contains-from_map}
+use Rattle.flk_exact.proofs.ListLemmas.{AllZip-weaker}
 use Rattle.flk_front.proofs.SquareSteps.{ceil_within, ceil_least}
 use Rattle.flk_stat.specs.Rank.{HasRank, is_less, rank_of}
 use Rattle.flk_stat.specs.Ranked.{ranked_at}
 use Rattle.flk_stat.specs.Severity.{IsLevelEnd}
-use Rattle.flk_stat.proofs.CountLemmas.{count_none, count_all, count_made}
-use Rattle.flk_stat.proofs.RankLemmas.{IsOrder, by_truth, rank_clash, AllZip-itself}
+use Rattle.flk_stat.proofs.CountLemmas.{count_none, count_all}
+use Rattle.flk_stat.proofs.RankLemmas.{IsOrder, by_truth, rank_clash, AllZip-itself, rank_made, rank_from_made}
 
 -- ---- the order of whole numbers
 
@@ -112,26 +112,11 @@ units_less x y =
     (λ no. (let l = false-at_most x y no in less-false (x *ℤ pos (2 ^ 48)) (y *ℤ pos (2 ^ 48)) (omega (arith, ints, l))) ∙ sym no)
 
 pub rank_in_units : (k : ℕ) (xs : List ℤ) (v : ℤ) → HasRank int_lt k xs v → HasRank is_less k (map units xs) (units v)
-rank_in_units k xs v r = record {
-  member = Contains-map units xs v r.member;
-  few_above = (let n = count_made (λ p. is_less (units v) p) (λ x. int_lt v x) units (λ x. units_less v x) xs in omega (arith, n, r.few_above));
-  enough_at = (let n = count_made (λ p. not (is_less p (units v))) (λ x. not (int_lt x v)) units (λ x. ap not (units_less x v)) xs in omega (arith, n, r.enough_at));
-}
+rank_in_units k xs v r = rank_made int_lt is_less units units_less k xs v r
 
 -- and back
 pub rank_from_units : (k : ℕ) (xs : List ℤ) (p : Fraction) → HasRank is_less k (map units xs) p → (v : ℤ) × (units v ≡ p) × HasRank int_lt k xs v
-rank_from_units k xs p r =
-    let m = Contains-from_map units xs p (pos 0) r.member in
-    let v = m.0 in
-    let here : HasRank is_less k (map units xs) (units v) = subst (λ (q : Fraction). HasRank is_less k (map units xs) q) (sym m.2) r in (
-      v,
-      m.2,
-      record {
-        member = m.1;
-        few_above = (let n = count_made (λ q. is_less (units v) q) (λ x. int_lt v x) units (λ x. units_less v x) xs in omega (arith, n, here.few_above));
-        enough_at = (let n = count_made (λ q. not (is_less q (units v))) (λ x. not (int_lt x v)) units (λ x. ap not (units_less x v)) xs in omega (arith, n, here.enough_at));
-      },
-    )
+rank_from_units k xs p r = rank_from_made int_lt is_less units units_less k xs p (pos 0) r
 
 -- ---- a list in rising order
 

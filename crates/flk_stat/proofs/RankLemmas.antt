@@ -1,13 +1,14 @@
 -- Ranks by any order: two lists whose ranks clash, ranks of a list in another order, and that a list has a number of each rank.
-use Rattle.std.proofs.Common.{◌≡◌, ℕ, zero, suc, ◌<◌, ◌≤◌, Bool, true, false, not, cond, List, [], ◌∷◌, length, refl, sym, ap, ◌∙◌, ⊎_elim, arith}
-use Rattle.std.specs.List.{AllZip, Contains, count_by}
+use Rattle.std.proofs.Common.{◌≡◌, ℕ, zero, suc, ◌+◌, ◌<◌, ◌≤◌, Bool, true, false, not, ◌&&◌, cond, List, [], ◌∷◌, length, map, refl, sym, ap, subst, ◌∙◌, ⊎_elim, arith}
+use Rattle.std.specs.List.{AllZip, Contains, count_by, filter}
 use Rattle.std.specs.List.Sorted.{IsPermutation}
-use Rattle.std.proofs.lemmas.Bool.{true≢false, cases_lt}
+use Rattle.std.proofs.lemmas.Bool.{true≢false, cases_lt, and_parts, and_from}
+use Rattle.std.proofs.lemmas.List.Elements.{All-filter, All-contains, All-contains_itself}
 use Rattle.std.proofs.lemmas.List.Sums.{count_by-le-length}
 use Rattle.std.proofs.lemmas.List.Sorted.{sum_by-IsPermutation, Contains-permutation}
-use Rattle.flk_exact.proofs.ListLemmas.{AllZip-weaker}
+use Rattle.flk_exact.proofs.ListLemmas.{AllZip-weaker, Contains-map, Contains-from_map}
 use Rattle.flk_stat.specs.Rank.{HasRank}
-use Rattle.flk_stat.proofs.CountLemmas.{count_zip, count_implies, count_yes, count_no, count_more}
+use Rattle.flk_stat.proofs.CountLemmas.{count_zip, count_made, count_implies, count_filtered, count_yes, count_no, count_more}
 
 pub by_truth : {P : Type 0} (b : Bool) → (b ≡ true → P) → (b ≡ false → P) → P
 by_truth true t f = t refl
@@ -35,6 +36,31 @@ rank-permutation less k xs ys v h r = record {
   few_above = (let e = sum_by-IsPermutation (λ x. cond (less v x) 1 0) xs ys h in omega (arith, e, r.few_above));
   enough_at = (let e = sum_by-IsPermutation (λ x. cond (not (less x v)) 1 0) xs ys h in omega (arith, e, r.enough_at));
 }
+
+-- ranks of what is made of the items, where that keeps the order
+pub rank_made : {A B : Type 0} (less : A → A → Bool) (under : B → B → Bool) (f : A → B) → ((x y : A) → under (f x) (f y) ≡ less x y)
+    → (k : ℕ) (xs : List A) (v : A) → HasRank less k xs v → HasRank under k (map f xs) (f v)
+rank_made less under f same k xs v r = record {
+  member = Contains-map f xs v r.member;
+  few_above = (let n = count_made (λ y. under (f v) y) (λ x. less v x) f (λ x. same v x) xs in omega (arith, n, r.few_above));
+  enough_at = (let n = count_made (λ y. not (under y (f v))) (λ x. not (less x v)) f (λ x. ap not (same x v)) xs in omega (arith, n, r.enough_at));
+}
+
+-- and back
+pub rank_from_made : {A B : Type 0} (less : A → A → Bool) (under : B → B → Bool) (f : A → B) → ((x y : A) → under (f x) (f y) ≡ less x y)
+    → (k : ℕ) (xs : List A) (w : B) (d : A) → HasRank under k (map f xs) w → (v : A) × (f v ≡ w) × HasRank less k xs v
+rank_from_made less under f same k xs w d r =
+    let m = Contains-from_map f xs w d r.member in
+    let v = m.0 in
+    let here : HasRank under k (map f xs) (f v) = subst (λ y. HasRank under k (map f xs) y) (sym m.2) r in (
+      v,
+      m.2,
+      record {
+        member = m.1;
+        few_above = (let n = count_made (λ y. under (f v) y) (λ x. less v x) f (λ x. same v x) xs in omega (arith, n, here.few_above));
+        enough_at = (let n = count_made (λ y. not (under y (f v))) (λ x. not (less x v)) f (λ x. ap not (same x v)) xs in omega (arith, n, here.enough_at));
+      },
+    )
 
 -- ---- a number of each rank, by adding the items one after the other
 
@@ -107,3 +133,22 @@ rank_exists less o (suc (suc k)) (x ∷ xs) some fits =
     by_truth (less a.0 x)
     (λ yes. (a.0, rank_pushed less o (suc k) x xs a.0 yes a.1))
     (λ no. rank_more less o (suc k) x xs (omega arith) (λ j p q. rank_exists less o j xs p q) (enough_at_it less o (suc k) x xs a.0 no a.1))
+
+-- ---- ranks among the items that a filter keeps
+
+-- the items above it that were dropped come to its rank
+pub rank_dropped : {A : Type 0} (less : A → A → Bool) → IsOrder less → (q : A → Bool) (k : ℕ) (xs : List A) (v : A) → HasRank less k (filter q xs) v
+    → HasRank less (k + count_by (λ x. not (q x) && less v x) xs) xs v
+rank_dropped {A = A} less o q k xs v r =
+    let above = count_filtered q (λ x. less v x) xs in
+    let at = count_filtered q (λ x. not (less x v)) xs in
+    let back : (x : A) → less v x ≡ true → less x v ≡ false = λ x yes.
+    by_truth (less x v) (λ turned. absurd (true≢false (sym (o.transitive v x v yes turned) ∙ o.irreflexive v))) (λ no. no) in
+    let step : (x : A) → (not (q x) && less v x) ≡ true → (not (q x) && not (less x v)) ≡ true = λ x h.
+    (let parts = and_parts (not (q x)) (less v x) h in and_from (not (q x)) (not (less x v)) parts.0 (ap not (back x parts.1))) in
+    let n = count_implies (λ x. not (q x) && less v x) (λ x. not (q x) && not (less x v)) step xs in
+    record {
+      member = All-contains (Contains xs) (filter q xs) v (All-filter q (Contains xs) xs (All-contains_itself xs)) r.member;
+      few_above = omega (arith, above, r.few_above);
+      enough_at = omega (arith, at, n, r.enough_at);
+    }

@@ -9,4 +9,6 @@ pub mod LongTerm
 pub mod Levels
 -- ---- what private ones cite besides
 pub mod Ranked
+pub mod Buckets
+pub mod Walk
 pub mod ListOfEnds

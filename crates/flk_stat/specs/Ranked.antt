@@ -6,6 +6,7 @@ use Rattle.std.specs.Ordering.{nat_cmp}
 use Rattle.flk_num.specs.declared.interval.Interval.{Interval}
 use Rattle.flk_num.specs.Interval.{lows, highs}
 use Rattle.flk_stat.specs.declared.severity.Share.{Share}
+use Rattle.flk_stat.specs.declared.severity.RankedShare.{RankedShare}
 use Rattle.flk_stat.specs.Rank.{HasRank, rank_of}
 use Rattle.flk_stat.specs.Severity.{shares}
 
@@ -46,26 +47,37 @@ weighted_total rising n ss = fold (λ sum s. sum +ℤ pos s.weight *ℤ ranked_a
 abbrev pub AreWithin : (n m : ℕ) → List Share → Type 0
 AreWithin n m ss = All (λ s. rank_of s.tenths n ≤ m) ss
 
--- The same sum by ranks, of levels in any order: their ranks are those among n levels.
+-- the sum of the levels of some ranks, each times its weight, of levels in any order
+abbrev pub IsRankedSum : List RankedShare → List ℤ → ℤ → Type 0
+IsRankedSum [] levels sum = sum ≡ pos 0
+IsRankedSum (q ∷ qs) levels sum = (v : ℤ) × HasRank int_lt q.rank levels v × IsRankedSum qs levels (sum -ℤ pos q.share.weight *ℤ v)
+
+-- the share's percentile among n levels
+abbrev pub ranked_share : ℕ → Share → RankedShare
+ranked_share n s = record { share = s; rank = rank_of s.tenths n }
+
+-- The sum of the percentiles of some shares, of levels in any order: their ranks are those among n levels.
 abbrev pub IsWeightedSum : (n : ℕ) → List Share → List ℤ → ℤ → Type 0
-IsWeightedSum n [] levels sum = sum ≡ pos 0
-IsWeightedSum n (s ∷ ss) levels sum =
-    (v : ℤ) × HasRank int_lt (rank_of s.tenths n) levels v × IsWeightedSum n ss levels (sum -ℤ pos s.weight *ℤ v)
+IsWeightedSum n ss levels sum = IsRankedSum (map (ranked_share n) ss) levels sum
 
 -- the sum of all percentiles of the severity
 pub record IsSumOfPercentiles (levels : List ℤ) (sum : ℤ) : Type 0 where
   pub is : IsWeightedSum (length levels) shares levels sum
 
--- of the levels the share's percentile x was selected: `part` is x times the weight, and `above` are the levels that it stands before
-pub record IsSelected (n : ℕ) (s : Share) (levels : List ℕ) (part : ℤ) (above : List ℕ) : Type 0 where
+-- one of the levels has the rank
+pub record IsRankIn (levels : List ℕ) (q : RankedShare) : Type 0 where
+  pub low : 0 < q.rank
+  pub high : q.rank ≤ length levels
+
+-- each rank is above those before it
+pub record DoRise (qs : List RankedShare) : Type 0 where
+  pub rise : (i j : ℕ) (d : RankedShare) → i < j → j < length qs → (slice_index_or qs i d).rank < (slice_index_or qs j d).rank
+
+-- the level x of the rank was selected: `part` is x times the weight, and `above` are the levels that it stands before
+pub record IsSelected (q : RankedShare) (levels : List ℕ) (part : ℤ) (above : List ℕ) : Type 0 where
   pub front : List ℕ
   pub x : ℕ
   pub moved : IsPermutation levels (front ++ x ∷ above)
   pub split : IsSplitAround nat_cmp front x above
-  pub place : length above + 1 ≡ rank_of s.tenths n
-  pub weighed : part ≡ pos s.weight *ℤ pos x
-
--- the tenths of the shares rise from above a number
-abbrev pub RiseFrom : ℕ → List Share → Type 0
-RiseFrom low [] = Unit {0}
-RiseFrom low (s ∷ ss) = (low < s.tenths) × RiseFrom s.tenths ss
+  pub place : length above + 1 ≡ q.rank
+  pub weighed : part ≡ pos q.share.weight *ℤ pos x

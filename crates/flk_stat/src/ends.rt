@@ -108,7 +108,8 @@ fn moved_up(number: u64, level: u128, square: u128) -> u128
     (level - part_between(number, square as i128, level)) as u128
 }
 
-/// The level after a sample with these scaled squares, in units of 2^-48, where the squares count for `number` parts in 2^32.
+/// The level after a sample with these scaled squares, in units of 2^-48, where the squares count for `number` parts in
+/// 2^32.
 pub fn level_after(number: u64, level: Ends, square: Ends) -> Ends
     requires number { number ≤ 2 ^ 32 }
     requires ordered { level.lo ≤ level.hi }

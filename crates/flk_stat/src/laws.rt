@@ -34,7 +34,8 @@ pub fn levels_hold_signals()
         → AreLevelIntervals c ws vs → AllZip IsWithin ws xs → AreLevels c xs ps → HoldEach vs ps }
 {}
 
-/// Where a bound holds for the radii of the points, no level interval is wider than it allows. (c is from a part in 2046 to one, over 2^32.)
+/// Where a bound holds for the radii of the points, no level interval is wider than it allows. (c is from a part in
+/// 2046 to one, over 2^32.)
 pub fn levels_are_narrow()
     ensures { (c : ℕ) (ws : List Point) (vs : List Interval) (bound : Fraction) → c ≤ 2 ^ 32 → 2 ^ 32 ≤ 2046 * c
         → AreLevelIntervals c ws vs → units (pos (2 ^ 24)) ≤ℚ bound → All (BoundsRadius bound) ws
@@ -51,8 +52,8 @@ pub fn rank_is_one()
         → HasRank is_less k xs w → v ≈ℚ w }
 {}
 
-/// Where each number of a list is at most the one of another list at the same place, the number of rank k of the first is at most that of
-/// the second.
+/// Where each number of a list is at most the one of another list at the same place, the number of rank k of the first
+/// is at most that of the second.
 pub fn ranks_keep_the_order()
     ensures { (k : ℕ) (xs ys : List Fraction) (v w : Fraction) → AllZip ◌≤ℚ◌ xs ys → HasRank is_less k xs v
         → HasRank is_less k ys w → v ≤ℚ w }
@@ -84,7 +85,8 @@ pub fn severity_holds()
         → IsSeverityOfEnds (highs vs) hi → IsSeverity ps w → IsBetween lo hi w }
 {}
 
-/// Where no level is wider than a bound of the radii allows, the severities of the lower and of the upper ends are near each other.
+/// Where no level is wider than a bound of the radii allows, the severities of the lower and of the upper ends are near
+/// each other.
 pub fn severity_is_narrow()
     ensures { (vs : List Interval) (bound : Fraction) (lo hi : ℤ) → units (pos (2 ^ 24)) ≤ℚ bound
         → All (λ z. pos 0 ≤ℤ z) (lows vs) → All (IsSpread bound) vs → IsSeverityOfEnds (lows vs) lo

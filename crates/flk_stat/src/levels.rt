@@ -103,11 +103,12 @@ impl Levels {
         self.room -= 1;
     }
 
-    /// Ends the interval, whose room is used up, and answers the interval of its short-term severity in billionths, from 0 to 10^12: the
-    /// severity of the lower ends, and that of the upper ones. All room is given back. Takes no memory.
+    /// Ends the interval, whose room is used up, and answers the interval of its short-term severity in billionths,
+    /// from 0 to 10^12: the severity of the lower ends, and that of the upper ones. All room is given back. Takes no
+    /// memory.
     ///
-    /// The interval holds the severity of all exact levels that lie in the levels added. Where these are no wider than a bound of the
-    /// radii allows, it is at most `10^9 * 796 * bound + 1000` wide.
+    /// The interval holds the severity of all exact levels that lie in the levels added. Where these are no wider than
+    /// a bound of the radii allows, it is at most `10^9 * 796 * bound + 1000` wide.
     pub fn end(&mut self) -> Interval
         requires { room_of self.old ≡ 0 }
         ensures size { size_of self.new ≡ size_of self.old }

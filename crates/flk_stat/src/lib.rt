@@ -1,14 +1,17 @@
 //! Blocks 4 and 5 of the flickermeter of IEC 61000-4-15: squaring and smoothing, and the statistics of the levels.
 //!
-//! [`Smooth`] takes the points of the weighted signal and answers the interval of each level. [`Levels`] collects the levels of one
-//! interval and answers the interval of its short-term severity. [`percentile`], [`pst`] and [`plt`] are the statistics of plain numbers.
-//! What stands in an answer is fixed to the last digit, it holds the exact value of every signal that lies in the points taken, and it is no
-//! wider than their radii allow. No call but [`Levels::new`] takes memory.
+//! [`Smooth`] takes the points of the weighted signal and answers the interval of each level. [`Levels`] collects the
+//! levels of one interval and answers the interval of its short-term severity. [`percentile`], [`pst`] and [`plt`] are
+//! the statistics of plain numbers. What stands in an answer is fixed to the last digit, it holds the exact value of
+//! every signal that lies in the points taken, and it is no wider than their radii allow. No call but [`Levels::new`]
+//! takes memory.
 //!
-//! In `specs/` stand the exact smoothing (`Smoothing`) and the rounded one (`Rounded`), ranks counted from the greatest (`Rank`), the two
-//! severities (`Severity`, `LongTerm`), and how wide an answer may be (`Width`). `laws` says what keeps them honest.
+//! In `specs/` stand the exact smoothing (`Smoothing`) and the rounded one (`Rounded`), ranks counted from the greatest
+//! (`Rank`), the two severities (`Severity`, `LongTerm`), and how wide an answer may be (`Width`). `laws` says what
+//! keeps them honest.
 #![tactic(auto)]
 
+mod buckets;
 mod ends;
 mod laws;
 mod levels;

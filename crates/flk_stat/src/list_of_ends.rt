@@ -11,10 +11,12 @@ use crate::selection::percentile_sum;
 use crate::severity::capped_root;
 use std::alloc::Global;
 
-/// Ends of levels, in units of 2^-48 and from 0 to below 2^93, for which room was made once. The order in which they came is not kept.
+/// Ends of levels, in units of 2^-48 and from 0 to below 2^93, for which room was made once. The order in which they
+/// came is not kept.
 #[derive(Drop)]
 pub(crate) struct ListOfEnds {
-    // Those below 2^64, in 64 bits, which are put in order in half the time that 128 bits take. Levels that occur are among them.
+    // Those below 2^64, in 64 bits, which are put in order in half the time that 128 bits take. Levels that occur are
+    // among them.
     narrow: Vec<u64>,
     // The others: each is greater than all narrow ones.
     wide: Vec<i128>,
@@ -48,7 +50,8 @@ impl ListOfEnds {
         }
     }
 
-    /// The short-term severity of levels with these ends, in billionths, from 0 to 10^12. The ends are let go, at least one. Takes no memory.
+    /// The short-term severity of levels with these ends, in billionths, from 0 to 10^12. The ends are let go, at least
+    /// one. Takes no memory.
     pub(crate) fn severity(&mut self) -> i128
         requires some { 0 < length (ends_of self.old) }
         ensures severity { IsSeverityOfEnds (ends_of self.old) result }

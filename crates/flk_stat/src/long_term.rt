@@ -18,8 +18,8 @@ fn cube(v: i128) -> i128
     v * v * v
 }
 
-/// The long-term severity Plt of IEC 61000-4-15, in billionths, from 0 to 10^12: the cube root of the mean of the cubes of twelve
-/// short-term ones, rounded up. These are in billionths, from 0 to 10^12, in any order.
+/// The long-term severity Plt of IEC 61000-4-15, in billionths, from 0 to 10^12: the cube root of the mean of the cubes
+/// of twelve short-term ones, rounded up. These are in billionths, from 0 to 10^12, in any order.
 pub fn plt(values: &[i128]) -> i128
     requires count { length values.now ≡ 12 }
     requires in_range { All (IsBetween (pos 0) cap) values.now }

@@ -19,8 +19,8 @@ pub(crate) fn rank(k: u16, n: usize) -> usize
     (u128::from(k) * n as u128).div_ceil(1000) as usize
 }
 
-/// The level where the percentile of k tenths of a percent of n levels stands among the greatest of them. Those are given in rising
-/// order: first the ones that fit 64 bits, then the others.
+/// The level where the percentile of k tenths of a percent of n levels stands among the greatest of them. Those are
+/// given in rising order: first the ones that fit 64 bits, then the others.
 pub(crate) fn ranked(narrow: &[u64], wide: &[i128], n: usize, k: u16) -> i128
     requires some { 0 < n }
     requires low { 1 ≤ k }
@@ -35,9 +35,9 @@ pub(crate) fn ranked(narrow: &[u64], wide: &[i128], n: usize, k: u16) -> i128
     i128::from(narrow[narrow.len() - (rank - wide.len())])
 }
 
-/// The percentile of k tenths of a percent: the level that is exceeded during that share of the time, by IEC 61000-4-15. It is the one of
-/// rank `k * n / 1000`, rounded up, from the greatest, where n is the number of levels. They are in any unit and in rising order, at least
-/// one; k is from 1 to 1000.
+/// The percentile of k tenths of a percent: the level that is exceeded during that share of the time, by IEC
+/// 61000-4-15. It is the one of rank `k * n / 1000`, rounded up, from the greatest, where n is the number of levels.
+/// They are in any unit and in rising order, at least one; k is from 1 to 1000.
 pub fn percentile(rising: &[i128], k: u16) -> i128
     requires some { 0 < length rising.now }
     requires rises { IsSorted int_cmp rising.now }

@@ -20,6 +20,13 @@ pub struct Share {
     pub weight: u16,
 }
 
+/// A percentile by its rank among some levels, counted from the greatest.
+#[derive(Clone, Copy)]
+pub(crate) struct RankedShare {
+    pub share: Share,
+    pub rank: usize,
+}
+
 /// The percentiles of the standard.
 pub(crate) const SHARES: [Share; 15] = [
     Share {
@@ -112,7 +119,8 @@ fn part(narrow: &[u64], wide: &[i128], share: Share) -> i128
 // 1000, in billionths.
 const CAP: i128 = 1_000_000_000_000;
 
-/// The root of a weighted sum of percentiles in units of 2^-48 over 30000, in billionths, rounded up, and at most the cap.
+/// The root of a weighted sum of percentiles in units of 2^-48 over 30000, in billionths, rounded up, and at most the
+/// cap.
 pub(crate) fn capped_root(sum: i128) -> i128
     requires low { pos 0 ≤ℤ sum }
     requires high { sum ≤ℤ pos (2 ^ 108) }
@@ -122,7 +130,8 @@ pub(crate) fn capped_root(sum: i128) -> i128
     root_ceil(scaled_ceil(sum, 6_103_515_625, 51_539_607_552)).min(CAP)
 }
 
-/// The sum of the percentiles of levels in rising order, each times its weight. First come the levels that fit 64 bits, then the others.
+/// The sum of the percentiles of levels in rising order, each times its weight. First come the levels that fit 64 bits,
+/// then the others.
 pub(crate) fn rising_sum(narrow: &[u64], wide: &[i128]) -> i128
     requires some { 0 < length narrow.now + length wide.now }
     requires rises { IsSorted int_cmp (together narrow.now wide.now) }
@@ -138,9 +147,9 @@ pub(crate) fn rising_sum(narrow: &[u64], wide: &[i128]) -> i128
     sum
 }
 
-/// The short-term severity Pst of IEC 61000-4-15, in billionths, from 0 to 10^12: the square root of the weighted sum of 15 percentiles,
-/// rounded up, and at most 1000. The levels are those of one interval, in units of 2^-48, from 0 to below 2^93 and in rising order, at least
-/// one.
+/// The short-term severity Pst of IEC 61000-4-15, in billionths, from 0 to 10^12: the square root of the weighted sum
+/// of 15 percentiles, rounded up, and at most 1000. The levels are those of one interval, in units of 2^-48, from 0 to
+/// below 2^93 and in rising order, at least one.
 pub fn pst(rising: &[i128]) -> i128
     requires some { 0 < length rising.now }
     requires rises { IsSorted int_cmp rising.now }

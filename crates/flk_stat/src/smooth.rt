@@ -72,12 +72,12 @@ impl Smooth {
         }
     }
 
-    /// Takes the next point of the weighted signal, in units of 2^-48, and answers the interval of the level after it, in the same unit. The
-    /// radius is not below 0, and the size of the mid and the radius are together below 2^61. The ends of the answer are from 0 to below
-    /// 2^93. Takes no memory.
+    /// Takes the next point of the weighted signal, in units of 2^-48, and answers the interval of the level after it,
+    /// in the same unit. The radius is not below 0, and the size of the mid and the radius are together below 2^61. The
+    /// ends of the answer are from 0 to below 2^93. Takes no memory.
     ///
-    /// The interval holds the exact level of every signal that lies in the points taken. Where a bound holds for their radii, it is no
-    /// wider than that allows.
+    /// The interval holds the exact level of every signal that lies in the points taken. Where a bound holds for their
+    /// radii, it is no wider than that allows.
     pub fn step(&mut self, w: Point) -> Interval
         requires radius { pos 0 ≤ℤ w.radius }
         requires small { (pos (unsigned_abs w.mid) +ℤ w.radius) <ℤ pos (2 ^ 61) }

@@ -239,3 +239,75 @@ fn levels_on_both_sides_of_64_bits(rt: HostRuntime) -> Result<(), Fail> {
     );
     Ok(())
 }
+
+// Adds a level from a lower end that fits 64 bits to an upper one 2^20 greater, where there is room.
+fn add_narrow_level(levels: &mut Levels, lo: u64) {
+    if 0 < levels.room() {
+        let lo = i128::from(lo);
+        levels.add(Interval {
+            lo,
+            hi: lo + 1_048_576,
+        });
+    }
+}
+
+// As many levels as are selected from, all in one bucket.
+#[test]
+fn equal_levels(rt: HostRuntime) -> Result<(), Fail> {
+    let mut levels = Levels::new(rt.alloc(), 1000)?;
+    for _ in 0..1000u32 {
+        add_narrow_level(&mut levels, 281_474_976_710_656);
+    }
+    assert_eq!(rt;
+        severity_at_end(&mut levels),
+        Some(Interval {
+            lo: 713_862_732,
+            hi: 713_862_734
+        })
+    );
+    Ok(())
+}
+
+// From 2^33 to 2^44, and one level of 10^6 * 2^43.
+fn level_with_a_spike(i: u32) -> u64 {
+    if i == 77 {
+        8_796_093_022_208_000_000
+    } else {
+        (u64::from(i) * 701 % 2048 + 1) * 8_589_934_592
+    }
+}
+
+// Each 32nd is small, so that the guess by evenly spaced levels leaves nearly all others in the last bucket.
+fn level_with_small_ones(i: u32) -> u64 {
+    if i % 32 == 0 {
+        u64::from(i)
+    } else {
+        u64::from(i) * 701 % 2048 * 70_368_744_177_664
+    }
+}
+
+#[test]
+fn intervals_of_many_sizes_in_turn(rt: HostRuntime) -> Result<(), Fail> {
+    let mut levels = Levels::new(rt.alloc(), 2048)?;
+    for i in 0..2048u32 {
+        add_narrow_level(&mut levels, level_with_a_spike(i));
+    }
+    assert_eq!(rt;
+        severity_at_end(&mut levels),
+        Some(Interval {
+            lo: 164_783_044,
+            hi: 164_783_050
+        })
+    );
+    for i in 0..2048u32 {
+        add_narrow_level(&mut levels, level_with_small_ones(i));
+    }
+    assert_eq!(rt;
+        severity_at_end(&mut levels),
+        Some(Interval {
+            lo: 14_866_597_067,
+            hi: 14_866_597_067
+        })
+    );
+    Ok(())
+}

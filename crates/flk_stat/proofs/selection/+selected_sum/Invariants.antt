@@ -1,6 +1,6 @@
 use Rattle.std.proofs.Common.{length}
 use Rattle.flk_stat.proofs.selection.+selected_sum.Given as goal
 
--- one share fewer each time
+-- one rank fewer each time
 abbrev pub decreases-selected_sum : goal.decreases-selected_sum
-decreases-selected_sum l = length l.shares.now
+decreases-selected_sum l = length l.wanted.now

@@ -1,32 +1,25 @@
-use Rattle.std.proofs.Common.{rules, arith, ◌≡◌, ℕ, ◌*◌, ◌^◌, Bool, true, List, length, map, ℤ, pos, ◌≤ℤ◌, FitsSigned}
+use Rattle.std.proofs.Common.{rules, arith, ◌≡◌, ℕ, Bool, true, List, length, map, ℤ, pos, FitsSigned}
 use Rattle.std.specs.Bool.{◌==◌}
 use Rattle.std.specs.Int.{w128}
 use Rattle.std.proofs.lemmas.Bool.Decides.{nat_tests}
-use Rattle.std.proofs.lemmas.Int.{ints, to_z-of_z}
-use Rattle.flk_stat.specs.Severity.{shares}
-use Rattle.flk_stat.specs.Ranked.{together, IsWeightedSum, IsSumOfPercentiles}
+use Rattle.std.proofs.lemmas.Int.{to_z-of_z}
+use Rattle.flk_stat.specs.Ranked.{together, IsRankedSum, IsSumOfPercentiles}
 use Rattle.flk_stat.proofs.SelectionLemmas.{narrow_sum, sum_unsorted}
 use Rattle.flk_stat.proofs.selection.percentile_sum.Goals as goal
 
 empty : (n : ℕ) (b : Bool) → b ≡ (n == 0) → b ≡ true → n ≡ 0
 empty n b is held = grind (arith, nat_tests)
 
-pub returns-then-narrow-ge1000-clause-sum : goal.returns-then-narrow-ge1000-clause-sum
-returns-then-narrow-ge1000-clause-sum c =
+pub returns-then-narrow-clause-sum : goal.returns-then-narrow-clause-sum
+returns-then-narrow-clause-sum c =
     let narrow : List ℕ = c.args.narrow.now in
     let wide : List ℤ = c.args.wide.now in
+    let few : List ℕ = c.thinned-few.result.1.now in
     let z : ℤ = c.selected_sum.result in
     let fits : FitsSigned w128 z = search rules in
     let none = empty (length wide) c.is_empty.result c.is_empty.ensures c.if-is_empty.true in
-    let sum : IsWeightedSum (length narrow) shares (map pos narrow) z = search rules in
-    rw (to_z-of_z w128 z fits) (narrow_sum narrow wide z none sum)
-
-pub returns-then-narrow-ge1000-clause-high : goal.returns-then-narrow-ge1000-clause-high
-returns-then-narrow-ge1000-clause-high c =
-    let z : ℤ = c.selected_sum.result in
-    let fits : FitsSigned w128 z = search rules in
-    let high : z ≤ℤ pos (15 * 2 ^ 104) = search rules in
-    rw (to_z-of_z w128 z fits) (omega (arith, ints, high))
+    let sum : IsRankedSum c.thinned-few.result.0 (map pos few) z = search rules in
+    rw (to_z-of_z w128 z fits) (narrow_sum narrow wide z none (c.thinned-few.ensures.sum z sum))
 
 pub returns-clause-sum : goal.returns-clause-sum
 returns-clause-sum c =
