@@ -1,25 +1,29 @@
 -- A section's step on 64 bits: its products are those of the section, and its numbers stay small where the section's
 -- inputs lie near its rest.
 use Rattle.std.proofs.Common.{◌≡◌, ◌+◌, ◌*◌, ◌^◌, ◌<◌, ◌≤◌, Bool, false, ◌∷◌, refl, sym, ap, subst, ◌∙◌, arith}
-use Rattle.std.proofs.Math.IntN.{ℤ, pos, ◌+ℤ◌, ◌-ℤ◌, ◌*ℤ◌}
+use Rattle.std.proofs.Math.IntN.{ℤ, pos, neg_ℤ, ◌+ℤ◌, ◌-ℤ◌, ◌*ℤ◌}
 use Rattle.std.proofs.Math.Logic.{∥∥₁_elim}
 use Rattle.std.specs.Coded.{le_prop}
-use Rattle.std.specs.Prelude.{negsuc, ◌<ℤ◌}
+use Rattle.std.specs.Prelude.{◌<ℤ◌}
 use Rattle.std.specs.Int.RustNames.{unsigned_abs}
-use Rattle.std.specs.Int.Signed.{shr_z}
 use Rattle.std.proofs.Math.Nat.{mul-le-mul_right}
 use Rattle.std.proofs.lemmas.Int.{ints, unsigned_abs-mul}
 use Rattle.std.proofs.lemmas.List.Elements.{All-head, All-tail}
 use Rattle.flk_exact.specs.Rounding.{floor_of, IsFloor}
 use Rattle.flk_exact.proofs.RoundingLemmas.{IsFloor-floor_of, floor_of-at}
-use Rattle.flk_exact.proofs.ProductLemmas.{mul_assoc, left_comm}
+use Rattle.flk_exact.proofs.ProductLemmas.{mul_assoc, left_comm, neg_right}
 use Rattle.flk_cert.specs.declared.coefs.Coefs.{Coefs}
 use Rattle.flk_cert.specs.RoundedSection.{product, State, state, output, outputs, after}
 use Rattle.flk_cert.specs.Bound.{MayStart}
 use Rattle.flk_section.specs.declared.fine.FineCoefs.{FineCoefs}
 use Rattle.flk_section.specs.declared.row_section.RowSection.{RowSection}
 use Rattle.flk_section.specs.Narrow.{fine_product, fine_of, as_state}
-use Rattle.flk_section.specs.Fine.{IsFine}
+use Rattle.flk_section.specs.declared.products.InputProducts.{InputProducts}
+use Rattle.flk_section.specs.declared.products.OutputProducts.{OutputProducts}
+use Rattle.flk_section.specs.Fine.{IsFine, AreInputProducts, AreOutputProducts}
+use Rattle.flk_section.specs.declared.kind.SectionKind.{SectionKind}
+use Rattle.flk_section.specs.declared.kind.SectionKind.TheVariants.{HighPass, LowPass, BandPass, LeadAndLag, Lag, Any}
+use Rattle.flk_section.specs.Kinds.{HasKind, IsOfKind}
 use Rattle.flk_section.specs.Kept.{IsNearRest}
 use Rattle.flk_section.specs.Radius.{radius_after}
 use Rattle.flk_section.specs.RowSection.{gain_of, coefs_in, starts_from_one, IsCalm}
@@ -46,16 +50,31 @@ fine_product_is k v =
     let f = finer (fine_of k *ℤ v) (k *ℤ v) (product k v) (mul_assoc (pos (2 ^ 29)) k v) (IsFloor-floor_of (k *ℤ v) (2 ^ 32) (omega arith)) in
     sym (floor_of-at (fine_of k *ℤ v) (pos (2 ^ 61)) (product k v) (omega (arith, ints)) f)
 
--- the upper half of 128 bits
-half_is : (z : ℤ) → shr_z z (2 ^ 64) ≡ floor_of z (pos (2 ^ 64))
-half_is (pos n) = refl
-half_is (negsuc n) = refl
-
-pub upper_half : (k v : ℤ) → shr_z (k *ℤ (pos 8 *ℤ v)) (2 ^ 64) ≡ fine_product k v
-upper_half k v =
+-- a product is the upper half of a number of 128 bits
+fine_product_half : (k v : ℤ) → floor_of (k *ℤ (pos 8 *ℤ v)) (pos (2 ^ 64)) ≡ fine_product k v
+fine_product_half k v =
     let w : ℤ = k *ℤ (pos 8 *ℤ v) in
     let f = coarser w (k *ℤ v) (floor_of w (pos (2 ^ 64))) (left_comm k (pos 8) v) (IsFloor-floor_of w (2 ^ 64) (omega arith)) in
-    half_is w ∙ floor_of-at (k *ℤ v) (pos (2 ^ 61)) (floor_of w (pos (2 ^ 64))) (omega (arith, ints)) f
+    floor_of-at (k *ℤ v) (pos (2 ^ 61)) (floor_of w (pos (2 ^ 64))) (omega (arith, ints)) f
+
+pub half_of : (k v w p : ℤ) → w ≡ k *ℤ (pos 8 *ℤ v) → p ≡ floor_of w (pos (2 ^ 64)) → p ≡ fine_product k v
+half_of k v w p wide e = e ∙ ap (λ (z : ℤ). floor_of z (pos (2 ^ 64))) wide ∙ fine_product_half k v
+
+-- the products of the opposite and of the double of a coefficient, from its own before that is rounded
+pub opposite_half : (k l v w p : ℤ) → l ≡ neg_ℤ k → w ≡ k *ℤ (pos 8 *ℤ v) → p ≡ floor_of (pos 0 -ℤ w) (pos (2 ^ 64)) → p ≡ fine_product l v
+opposite_half k l v w p opposite wide e =
+    let minus : pos 0 -ℤ w ≡ neg_ℤ w = omega (arith, ints) in
+    half_of l v (pos 0 -ℤ w) p (minus ∙ ap neg_ℤ wide ∙ sym (ap (λ (z : ℤ). z *ℤ (pos 8 *ℤ v)) opposite ∙ neg_right k (pos 8 *ℤ v))) e
+
+pub double_half : (k l v w p : ℤ) → l ≡ pos 2 *ℤ k → w ≡ k *ℤ (pos 8 *ℤ v) → p ≡ floor_of (pos 2 *ℤ w) (pos (2 ^ 64)) → p ≡ fine_product l v
+double_half k l v w p double wide e =
+    half_of l v (pos 2 *ℤ w) p (ap (λ (z : ℤ). pos 2 *ℤ z) wide ∙ sym (ap (λ (z : ℤ). z *ℤ (pos 8 *ℤ v)) double ∙ mul_assoc (pos 2) k (pos 8 *ℤ v))) e
+
+-- a coefficient of 0 brings nothing
+pub zero_product : (k v : ℤ) → k ≡ pos 0 → pos 0 ≡ fine_product k v
+zero_product k v e =
+    let none : pos 0 *ℤ v ≡ pos 0 = omega (arith, ints) in
+    ap (λ (z : ℤ). floor_of z (pos (2 ^ 61))) (sym none) ∙ ap (λ (z : ℤ). fine_product z v) (sym e)
 
 pub fine_product_small : (k v : ℤ) → unsigned_abs k ≤ 2 ^ 62 → unsigned_abs (fine_product k v) ≤ 2 * unsigned_abs v + 1
 fine_product_small k v h =
@@ -66,33 +85,74 @@ fine_product_small k v h =
     let most : unsigned_abs k * unsigned_abs v ≤ 2 ^ 62 * unsigned_abs v = mul-le-mul_right (unsigned_abs v) h in
     omega (arith, ints, within, greatest, size, most)
 
+-- a product with a value below 2^60 in size
+pub small_product : (k v p : ℤ) → unsigned_abs k ≤ 2 ^ 62 → unsigned_abs v < 2 ^ 60 → p ≡ fine_product k v → unsigned_abs p ≤ 2 ^ 61
+small_product k v p coefficient value e =
+    let small = fine_product_small k v coefficient in
+    subst (λ (z : ℤ). unsigned_abs z ≤ 2 ^ 61) (sym e) (omega (arith, ints, small, value))
+
 -- ---- a step
 
-pub fine_output : (k : Coefs) (f : FineCoefs) (s : State) (X Y : ℤ) → IsFine k f → Y ≡ fine_product f.b0 X +ℤ s.s1 → Y ≡ output k s X
-fine_output k f s X Y fine e =
-    let b0 : fine_product f.b0 X ≡ product k.b0 X = ap (λ (z : ℤ). fine_product z X) fine.b0 ∙ fine_product_is k.b0 X in
-    e ∙ ap (λ (z : ℤ). z +ℤ s.s1) b0
+-- the kind of a section's coefficients is that of the same over 2^61
+pub fine_kind : (kind : SectionKind) (k : Coefs) (f : FineCoefs) → IsFine k f → IsOfKind kind k → HasKind kind f.b0 f.b1 f.b2 f.a2
+fine_kind HighPass k f fine h =
+    let b0 = fine.b0 in
+    let b1 = fine.b1 in
+    let b2 = fine.b2 in
+    let a2 = fine.a2 in
+    (omega (arith, ints, b0, b1, h.0), omega (arith, ints, b2, h.1), omega (arith, ints, a2, h.2))
+fine_kind LowPass k f fine h =
+    let b0 = fine.b0 in
+    let b1 = fine.b1 in
+    let b2 = fine.b2 in
+    (omega (arith, ints, b0, b1, h.0), omega (arith, ints, b0, b2, h.1))
+fine_kind BandPass k f fine h =
+    let b0 = fine.b0 in
+    let b1 = fine.b1 in
+    let b2 = fine.b2 in
+    (omega (arith, ints, b1, h.0), omega (arith, ints, b0, b2, h.1))
+fine_kind LeadAndLag k f fine h =
+    let b2 = fine.b2 in
+    let a2 = fine.a2 in
+    (omega (arith, ints, b2, h.0), omega (arith, ints, a2, h.1))
+fine_kind Lag k f fine h =
+    let b0 = fine.b0 in
+    let b1 = fine.b1 in
+    let b2 = fine.b2 in
+    let a2 = fine.a2 in
+    (omega (arith, ints, b0, b1, h.0), omega (arith, ints, b2, h.1), omega (arith, ints, a2, h.2))
+fine_kind Any k f fine h = tt
 
-pub fine_first : (k : Coefs) (f : FineCoefs) (s : State) (X Y : ℤ) → IsFine k f → Y ≡ output k s X → fine_product f.b1 X +ℤ s.s2 -ℤ fine_product f.a1 Y ≡ (after k s X).s1
-fine_first k f s X Y fine e =
-    let b1 : fine_product f.b1 X ≡ product k.b1 X = ap (λ (z : ℤ). fine_product z X) fine.b1 ∙ fine_product_is k.b1 X in
-    let a1 : fine_product f.a1 Y ≡ product k.a1 (output k s X) = ap (λ (z : ℤ). fine_product z Y) fine.a1 ∙ fine_product_is k.a1 Y ∙ ap (λ (z : ℤ). product k.a1 z) e in
+pub fine_output : (k : Coefs) (f : FineCoefs) (s : State) (X : ℤ) (p : InputProducts) → IsFine k f → AreInputProducts f X p → p.b0 +ℤ s.s1 ≡ output k s X
+fine_output k f s X p fine input =
+    let b0 : p.b0 ≡ product k.b0 X = input.b0 ∙ ap (λ (z : ℤ). fine_product z X) fine.b0 ∙ fine_product_is k.b0 X in
+    ap (λ (z : ℤ). z +ℤ s.s1) b0
+
+fine_fed_back : (a f Y Z q : ℤ) → f ≡ fine_of a → Y ≡ Z → q ≡ fine_product f Y → q ≡ product a Z
+fine_fed_back a f Y Z q fine same is = is ∙ ap (λ (z : ℤ). fine_product z Y) fine ∙ fine_product_is a Y ∙ ap (λ (z : ℤ). product a z) same
+
+pub fine_first : (k : Coefs) (f : FineCoefs) (s : State) (X Y : ℤ) (p : InputProducts) (q : OutputProducts) → IsFine k f → AreInputProducts f X p → AreOutputProducts f Y q
+    → Y ≡ output k s X → p.b1 +ℤ s.s2 -ℤ q.a1 ≡ (after k s X).s1
+fine_first k f s X Y p q fine input fed_back e =
+    let b1 : p.b1 ≡ product k.b1 X = input.b1 ∙ ap (λ (z : ℤ). fine_product z X) fine.b1 ∙ fine_product_is k.b1 X in
+    let a1 : q.a1 ≡ product k.a1 (output k s X) = fine_fed_back k.a1 f.a1 Y (output k s X) q.a1 fine.a1 e fed_back.a1 in
     omega (arith, ints, b1, a1)
 
-pub fine_second : (k : Coefs) (f : FineCoefs) (s : State) (X Y : ℤ) → IsFine k f → Y ≡ output k s X → fine_product f.b2 X -ℤ fine_product f.a2 Y ≡ (after k s X).s2
-fine_second k f s X Y fine e =
-    let b2 : fine_product f.b2 X ≡ product k.b2 X = ap (λ (z : ℤ). fine_product z X) fine.b2 ∙ fine_product_is k.b2 X in
-    let a2 : fine_product f.a2 Y ≡ product k.a2 (output k s X) = ap (λ (z : ℤ). fine_product z Y) fine.a2 ∙ fine_product_is k.a2 Y ∙ ap (λ (z : ℤ). product k.a2 z) e in
+fine_second : (k : Coefs) (f : FineCoefs) (s : State) (X Y : ℤ) (p : InputProducts) (q : OutputProducts) → IsFine k f → AreInputProducts f X p → AreOutputProducts f Y q
+    → Y ≡ output k s X → p.b2 -ℤ q.a2 ≡ (after k s X).s2
+fine_second k f s X Y p q fine input fed_back e =
+    let b2 : p.b2 ≡ product k.b2 X = input.b2 ∙ ap (λ (z : ℤ). fine_product z X) fine.b2 ∙ fine_product_is k.b2 X in
+    let a2 : q.a2 ≡ product k.a2 (output k s X) = fine_fed_back k.a2 f.a2 Y (output k s X) q.a2 fine.a2 e fed_back.a2 in
     omega (arith, ints, b2, a2)
 
 -- the state that the code makes
-pub narrow_after : (k : Coefs) (f : FineCoefs) (s : State) (X Y p q : ℤ) → IsFine k f → Y ≡ output k s X → p ≡ fine_product f.b1 X +ℤ s.s2 -ℤ fine_product f.a1 Y
-    → q ≡ fine_product f.b2 X -ℤ fine_product f.a2 Y → record { s1 = p; s2 = q } ≡ after k s X
-narrow_after k f s X Y p q fine e first second =
-    let x : p ≡ (after k s X).s1 = first ∙ fine_first k f s X Y fine e in
-    let y : q ≡ (after k s X).s2 = second ∙ fine_second k f s X Y fine e in
-    let made : ℤ → ℤ → State = λ a b. record { s1 = a; s2 = b } in
-    ap (λ (z : ℤ). made z q) x ∙ ap (λ (z : ℤ). made (after k s X).s1 z) y
+pub narrow_after : (k : Coefs) (f : FineCoefs) (s : State) (X Y : ℤ) (p : InputProducts) (q : OutputProducts) (a b : ℤ) → IsFine k f → AreInputProducts f X p → AreOutputProducts f Y q
+    → Y ≡ output k s X → a ≡ p.b1 +ℤ s.s2 -ℤ q.a1 → b ≡ p.b2 -ℤ q.a2 → record { s1 = a; s2 = b } ≡ after k s X
+narrow_after k f s X Y p q a b fine input fed_back e first second =
+    let x : a ≡ (after k s X).s1 = first ∙ fine_first k f s X Y p q fine input fed_back e in
+    let y : b ≡ (after k s X).s2 = second ∙ fine_second k f s X Y p q fine input fed_back e in
+    let made : ℤ → ℤ → State = λ u v. record { s1 = u; s2 = v } in
+    ap (λ (z : ℤ). made z b) x ∙ ap (λ (z : ℤ). made (after k s X).s1 z) y
 
 -- ---- how large the numbers get
 

@@ -1,13 +1,14 @@
 -- What is known of the sections of a cascade, which some points reached.
-use Rattle.std.proofs.Common.{◌≡◌, ◌^◌, ◌<◌, length, Bool, true, List, [], ◌∷◌, map, sym, ap, subst, ◌∙◌, arith}
+use Rattle.std.proofs.Common.{◌≡◌, ◌^◌, ◌<◌, length, Bool, true, List, [], ◌∷◌, map, get_or, sym, ap, subst, ◌∙◌, arith}
 use Rattle.std.proofs.Math.IntN.{ℤ, pos, ℤ_set}
 use Rattle.std.proofs.Math.Dec.{T_prop}
-use Rattle.std.proofs.Math.Logic.{∥∥₁_elim, ∥∥₁_map}
+use Rattle.std.proofs.Math.Logic.{∥∥₁_elim, ∥∥₁_map, ∥∥₁_map₂}
 use Rattle.std.specs.Prelude.{◌≤ℤ◌, ◌<ℤ◌}
 use Rattle.std.specs.Int.{int_max}
 use Rattle.std.specs.List.{All}
 use Rattle.std.proofs.lemmas.Int.{ints}
 use Rattle.std.proofs.lemmas.List.Elements.{All-nil, All-cons, All-head, All-tail}
+use Rattle.flk_cert.specs.declared.coefs.Coefs.{Coefs}
 use Rattle.flk_cert.specs.declared.gain.Gain.{Gain}
 use Rattle.flk_cert.specs.Gain.{coefs_of, input_of, gain_numbers}
 use Rattle.flk_front.specs.declared.point.Point.{Point}
@@ -21,6 +22,9 @@ use Rattle.flk_section.specs.Filter.{last_radius}
 use Rattle.flk_section.specs.Whole.{numbers_of}
 use Rattle.flk_section.specs.Kept.{IsNearRest}
 use Rattle.flk_section.specs.RowSection.{gain_of}
+use Rattle.flk_section.specs.declared.kind.SectionKind.{SectionKind}
+use Rattle.flk_section.specs.declared.kind.SectionKind.TheVariants.{HighPass, LowPass, BandPass, LeadAndLag, Lag, Any}
+use Rattle.flk_section.specs.Kinds.{IsOfKind, kind_at, AreOfDesign}
 use Rattle.flk_section.specs.Row.{StandInRow, AreReady, AreReached}
 use Rattle.flk_section.specs.declared.cascade.Cascade.{Cascade}
 use Rattle.flk_section.specs.Answer.{CascadeStands, IsAnswer}
@@ -65,6 +69,22 @@ reached_more gains ss ts p range same stand reached =
       fits = a.fits;
     } in
     made)
+
+-- ---- the kinds of the sections
+
+kind_holds : (kind : SectionKind) (k : Coefs) → ∥ IsOfKind kind k ∥₁ → IsOfKind kind k
+kind_holds HighPass k h = (∥∥₁_elim h (ℤ_set _ _) (λ e. e.0), ∥∥₁_elim h (ℤ_set _ _) (λ e. e.1), ∥∥₁_elim h (ℤ_set _ _) (λ e. e.2))
+kind_holds LowPass k h = (∥∥₁_elim h (ℤ_set _ _) (λ e. e.0), ∥∥₁_elim h (ℤ_set _ _) (λ e. e.1))
+kind_holds BandPass k h = (∥∥₁_elim h (ℤ_set _ _) (λ e. e.0), ∥∥₁_elim h (ℤ_set _ _) (λ e. e.1))
+kind_holds LeadAndLag k h = (∥∥₁_elim h (ℤ_set _ _) (λ e. e.0), ∥∥₁_elim h (ℤ_set _ _) (λ e. e.1))
+kind_holds Lag k h = (∥∥₁_elim h (ℤ_set _ _) (λ e. e.0), ∥∥₁_elim h (ℤ_set _ _) (λ e. e.1), ∥∥₁_elim h (ℤ_set _ _) (λ e. e.2))
+kind_holds Any k h = tt
+
+-- the sections have the kinds of their gains
+pub reached_design : (gains : List Gain) (ss : List RowSection) → ∥ AreReached gains ss ∥₁ → ∥ AreOfDesign gains ∥₁ → AreOfDesign (map gain_of ss)
+reached_design gains ss reached design = λ i within d.
+    kind_holds (kind_at i) (coefs_of (get_or (map gain_of ss) i d))
+    (∥∥₁_map₂ reached design (λ (a : AreReached gains ss) (all : AreOfDesign gains). subst AreOfDesign (sym a.gains_are) all i within d))
 
 -- ---- what fits is known of the bound of a whole cascade
 

@@ -1,6 +1,7 @@
 -- Sections in a row, one sample of one section after the other.
-use Rattle.std.proofs.Common.{◌≡◌, ℕ, zero, suc, ◌^◌, ◌<◌, Bool, false, List, [], ◌∷◌, length, map, get_or, set, drop, refl, sym, ap, subst, ◌∙◌, arith}
+use Rattle.std.proofs.Common.{◌≡◌, ℕ, zero, suc, ◌+◌, ◌^◌, ◌<◌, Bool, false, List, [], ◌∷◌, length, map, get_or, set, drop, refl, sym, ap, subst, ◌∙◌, arith}
 use Rattle.std.proofs.Math.IntN.{ℤ, pos}
+use Rattle.std.proofs.Math.ListN.{get_or-map}
 use Rattle.std.proofs.Math.Logic.{∥∥₁_elim, ∥∥₁_map}
 use Rattle.std.specs.Prelude.{◌<ℤ◌}
 use Rattle.std.specs.Coded.{le_prop}
@@ -17,7 +18,9 @@ use Rattle.flk_section.specs.RoundedCascade.{last_output}
 use Rattle.flk_section.specs.Radius.{radius_after, radii}
 use Rattle.flk_section.specs.Kept.{IsNearRest}
 use Rattle.flk_section.specs.RowSection.{gain_of, coefs_in, starts_from_one, SectionStands, IsCalm}
-use Rattle.flk_section.specs.Row.{StandInRow, AreReady}
+use Rattle.flk_section.specs.declared.kind.SectionKind.{SectionKind}
+use Rattle.flk_section.specs.Kinds.{IsOfKind, IsKindAt}
+use Rattle.flk_section.specs.Row.{StandInRow, Midway, AreReady}
 use Rattle.flk_section.proofs.SectionLemmas.{outputs_near_rest, radius_natural}
 use Rattle.flk_section.proofs.NarrowLemmas.{section_may_start, near_small}
 use Rattle.flk_section.proofs.RadiusLemmas.{left_split}
@@ -28,13 +31,6 @@ pub record IsStepped (s t : RowSection) (X Y : ℤ) : Type 0 where
   pub start : starts_from_one t ≡ starts_from_one s
   pub stands : (Xs : List ℤ) → SectionStands s Xs → SectionStands t (X ∷ Xs)
   pub output : (Xs : List ℤ) → SectionStands s Xs → Y ≡ output (coefs_in s) (state (coefs_in s) (starts_from_one s) Xs) X
-
--- The input X went through the first i sections after the inputs Xs, and came to Y; the others are as before.
-abbrev pub Midway : ℕ → (from_one : Bool) → List RowSection → (X : ℤ) → List ℤ → (Y : ℤ) → Type 0
-Midway zero from_one ss X Xs Y = (Y ≡ X) × StandInRow from_one ss Xs
-Midway (suc i) from_one [] X Xs Y = ⊥
-Midway (suc i) from_one (s ∷ ss) X Xs Y =
-    (starts_from_one s ≡ from_one) × SectionStands s (X ∷ Xs) × Midway i false ss (output (coefs_in s) (state (coefs_in s) from_one Xs) X) (outputs (coefs_in s) from_one Xs) Y
 
 midway_first : (from_one : Bool) (s t : RowSection) (ss : List RowSection) (X : ℤ) (Xs : List ℤ) (Y Z : ℤ) → IsStepped s t Y Z → Midway 0 from_one (s ∷ ss) X Xs Y → Midway 1 from_one (t ∷ ss) X Xs Z
 midway_first from_one s t ss X Xs Y Z step (same, (start, stands, others)) =
@@ -125,6 +121,14 @@ ready_small s t ss X Y step r =
 
 pub ready_next : (s t : RowSection) (ss : List RowSection) (X Y : ℤ) → IsStepped s t X Y → ∥ AreReady (s ∷ ss) X ∥₁ → ∥ AreReady ss Y ∥₁
 ready_next s t ss X Y step r = ∥∥₁_map r (λ (a : AreReady (s ∷ ss) X). next_ready s t ss X Y step a)
+
+-- the sections from i on, the first of which is s
+pub ready_from : (ss : List RowSection) (i : ℕ) (s : RowSection) (X : ℤ) → i < length ss → s ≡ get_or ss i s → ∥ AreReady (drop i ss) X ∥₁ → ∥ AreReady (s ∷ drop (i + 1) ss) X ∥₁
+ready_from ss i s X within e h = subst (λ (zs : List RowSection). ∥ AreReady zs X ∥₁) (left_split ss i s within e) h
+
+-- the section at i is of the kind
+pub kind_from : (kind : SectionKind) (ss : List RowSection) (i : ℕ) (s : RowSection) → IsKindAt i kind (map gain_of ss) → IsOfKind kind (coefs_in (get_or ss i s))
+kind_from kind ss i s h = subst (λ (g : Gain). IsOfKind kind (coefs_of g)) (get_or-map gain_of ss i s) (h (gain_of s))
 
 -- ---- the sections of the gains
 

@@ -14,6 +14,7 @@ pub mod Answer
 pub mod Kept
 pub mod Narrow
 pub mod Fine
+pub mod Kinds
 pub mod RowSection
 pub mod Row
 pub mod Followed

@@ -1,8 +1,8 @@
 -- Sections in a row, as the code holds them.
-use Rattle.std.specs.Prelude.{◌≡◌, ◌^◌, Bool, true, false, List, [], ◌∷◌, map, ℤ, pos, ◌≤ℤ◌, ◌<ℤ◌}
+use Rattle.std.specs.Prelude.{◌≡◌, ℕ, zero, suc, ◌^◌, Bool, true, false, List, [], ◌∷◌, map, ℤ, pos, ◌≤ℤ◌, ◌<ℤ◌}
 use Rattle.std.specs.List.{All}
 use Rattle.flk_cert.specs.declared.gain.Gain.{Gain}
-use Rattle.flk_cert.specs.RoundedSection.{outputs}
+use Rattle.flk_cert.specs.RoundedSection.{state, output, outputs}
 use Rattle.flk_front.specs.declared.point.Point.{Point}
 use Rattle.flk_section.specs.declared.row_section.RowSection.{RowSection}
 use Rattle.flk_section.specs.Kept.{IsNearRest}
@@ -15,6 +15,13 @@ abbrev pub StandInRow : (from_one : Bool) → List RowSection → List ℤ → T
 StandInRow from_one [] Xs = Unit {0}
 StandInRow from_one (s ∷ ss) Xs = (starts_from_one s ≡ from_one) × SectionStands s Xs
     × StandInRow false ss (outputs (coefs_in s) from_one Xs)
+
+-- The input X went through the first i sections after the inputs Xs, and came to Y; the others are as before.
+abbrev pub Midway : ℕ → (from_one : Bool) → List RowSection → (X : ℤ) → List ℤ → (Y : ℤ) → Type 0
+Midway zero from_one ss X Xs Y = (Y ≡ X) × StandInRow from_one ss Xs
+Midway (suc i) from_one [] X Xs Y = ⊥
+Midway (suc i) from_one (s ∷ ss) X Xs Y = (starts_from_one s ≡ from_one) × SectionStands s (X ∷ Xs)
+    × Midway i false ss (output (coefs_in s) (state (coefs_in s) from_one Xs) X) (outputs (coefs_in s) from_one Xs) Y
 
 -- ---- what the code keeps
 

@@ -1,6 +1,6 @@
 //! Seven sections in a row.
 
-ghost use Rattle.std.specs.Prelude.{◌≡◌, ◌^◌, ◌<◌, Bool, true, List, [], ◌∷◌, map, ℤ, pos, ◌≤ℤ◌, ◌<ℤ◌};
+ghost use Rattle.std.specs.Prelude.{◌≡◌, ◌^◌, ◌<◌, Bool, true, List, [], ◌∷◌, map, IsTrue, ℤ, pos, ◌≤ℤ◌, ◌<ℤ◌};
 ghost use Rattle.std.specs.Int.{int_max};
 ghost use Rattle.std.specs.Int.RustNames.{unsigned_abs};
 ghost use Rattle.std.specs.List.{All, AllZip};
@@ -17,8 +17,11 @@ ghost use Rattle.flk_section.specs.Radius.{FirstStartsAtRest};
 ghost use Rattle.flk_section.specs.Filter.{last_radius};
 ghost use Rattle.flk_section.specs.Whole.{gains_of, numbers_of};
 ghost use Rattle.flk_section.specs.RowSection.{gain_of};
-ghost use Rattle.flk_section.specs.Row.{StandInRow, AreReady, AreReached};
+ghost use Rattle.flk_section.specs.Kinds.{AreOfDesign};
+ghost use Rattle.flk_section.specs.Row.{StandInRow, AreReached};
 
+use crate::kind::are_of_design;
+use crate::row::step_in_row;
 use crate::row_section::RowSection;
 use crate::section::Section;
 use crate::whole::Whole;
@@ -51,33 +54,18 @@ fn narrow(mid: i128) -> i64
     mid as i64
 }
 
-// Takes the next input through the sections, and answers the last output.
-fn step_in_row(sections: &mut [RowSection], mid: i64) -> i64
-    requires mid { unsigned_abs mid < 2 ^ 60 }
-    requires ready { ∥ AreReady sections.old mid ∥₁ }
-    ensures gains { map gain_of sections.new ≡ map gain_of sections.old }
-    ensures stand { (from_one : Bool) (Xs : List ℤ) → StandInRow from_one sections.old Xs
-        → StandInRow from_one sections.new (mid ∷ Xs) }
-    ensures output { (from_one : Bool) (Xs : List ℤ) → StandInRow from_one sections.old Xs
-        → result ≡ last_output (map coefs_of (map gain_of sections.old)) from_one Xs mid }
-    ensures small { unsigned_abs result < 2 ^ 60 }
-{
-    let mut signal = mid;
-    for section in sections.iter_mut() {
-        signal = section.step(signal);
-    }
-    signal
-}
-
 /// The weighting filter of the flickermeter, IEC 61000-4-15, block 3: seven sections in a row. Values are in units of
 /// 2^-48.
 #[derive(Clone, Copy)]
 pub struct Cascade {
     whole: Whole,
     sections: [RowSection; 7],
+    // Whether the sections have the kinds of a design.
+    pub(crate) of_design: bool,
     // The greatest radius of the points so far, and the radius behind the last section that follows from it.
     greatest: i128,
     radius: i128,
+    ghost design: { IsTrue of_design → ∥ AreOfDesign (gains_of whole) ∥₁ },
     ghost greatest_low: { pos 0 ≤ℤ greatest },
     ghost greatest_high: { greatest ≤ℤ pos greatest_point },
     ghost follows: { radius ≡ last_radius (numbers_of whole) greatest },
@@ -93,9 +81,11 @@ impl Cascade {
         ensures whole { whole_in result ≡ whole }
         ensures stands { CascadeStands result [] }
     {
+        let gains = whole.gains();
         Cascade {
             whole,
-            sections: sections_of(whole.gains()),
+            sections: sections_of(gains),
+            of_design: are_of_design(&gains),
             greatest: 0,
             radius: whole.last_radius(0),
         }
@@ -146,7 +136,7 @@ impl Cascade {
         self.take_radius(p.radius);
         let mid = narrow(p.mid);
         Point {
-            mid: i128::from(step_in_row(&mut self.sections, mid)),
+            mid: i128::from(step_in_row(&mut self.sections, self.of_design, mid)),
             radius: self.radius,
         }
     }

@@ -8,24 +8,29 @@
 //! cascade, [`Whole`], from which one can be made. No call takes memory.
 //!
 //! The numbers of a cascade's sections fit 64 bits, so it runs on sections of its own, `RowSection`, which take the
-//! same step.
+//! same step. Where the sections have the kinds of a design (`SectionKind`), their steps take 19 products a sample in
+//! place of 35.
 //!
 //! What the exact and the rounded sections are stands in flk_cert. Here `specs/` puts them in a row: `Cascade` exactly,
 //! `RoundedCascade` as the program runs them, `Radius` with the radii by the sections' own gains, `Filter` with the
 //! numbers on which all digits depend, and `Section` and `Answer` with what the states stand for. `Narrow` has the step
-//! on 64 bits. `Chain` has the bound of the sections behind the first, what it promises and the rule by which it is
-//! made; the rule's parts stand in `OwnBounds` and `Forms`. docs/CERTIFICATES.md says why it holds, and
-//! `proofs/ChainLemmas` proves it.
+//! on 64 bits, and `Kinds` the kinds of a design's sections. `Chain` has the bound of the sections behind the first,
+//! what it promises and the rule by which it is made; the rule's parts stand in `OwnBounds` and `Forms`.
+//! docs/CERTIFICATES.md says why it holds, and `proofs/ChainLemmas` proves it.
 #![tactic(auto)]
 
+mod by_kind;
 mod cascade;
 mod chain;
 mod fine;
 mod form;
+mod kind;
 mod laws;
 mod narrow;
 mod own;
+mod products;
 mod radius;
+mod row;
 mod row_section;
 mod section;
 mod state;

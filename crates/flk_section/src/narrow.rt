@@ -1,10 +1,11 @@
 //! One sample of a section on 64 bits, where its input and its output are below 2^60 in size, as in a cascade.
 
-ghost use Rattle.std.specs.Prelude.{◌≡◌, ◌+◌, ◌*◌, ◌^◌, ◌<◌, ◌≤◌, ◌+ℤ◌, ◌-ℤ◌};
+ghost use Rattle.std.specs.Prelude.{◌≡◌, ◌+◌, ◌*◌, ◌^◌, ◌<◌, ◌≤◌, pos, ◌+ℤ◌, ◌-ℤ◌, ◌*ℤ◌};
 ghost use Rattle.std.specs.Int.RustNames.{unsigned_abs};
+ghost use Rattle.flk_exact.specs.Rounding.{floor_of};
 ghost use Rattle.flk_section.specs.Narrow.{fine_product};
 
-use crate::fine::FineCoefs;
+use crate::products::{InputProducts, OutputProducts};
 
 /// The two states of a section, in units of 2^-48.
 #[derive(Clone, Copy, Debug, PartialEq, Eq)]
@@ -13,57 +14,61 @@ pub struct NarrowState {
     pub s2: i64,
 }
 
-// A coefficient over 2^61 times a value, rounded down: the upper half of its product with 8 times the value, for which
-// one instruction is enough.
-fn product(k: i64, v: i64) -> i64
+/// A coefficient over 2^61 times 8 times a value, for which one instruction is enough.
+#[inline(always)]
+pub(crate) fn wide_product(k: i64, v: i64) -> i128
+    requires coefficient { unsigned_abs k ≤ 2 ^ 62 }
+    requires value { unsigned_abs v < 2 ^ 60 }
+    ensures value { result ≡ k *ℤ (pos 8 *ℤ v) }
+    ensures small { unsigned_abs result ≤ 2 ^ 125 }
+{
+    i128::from(k) * i128::from(8 * v)
+}
+
+/// The upper half of a number of 128 bits: it over 2^64, rounded down.
+#[inline(always)]
+pub(crate) fn upper_half(wide: i128) -> i64
+    requires { unsigned_abs wide ≤ 2 ^ 126 }
+    ensures { result ≡ floor_of wide (pos (2 ^ 64)) }
+{
+    (wide >> 64) as i64
+}
+
+/// A coefficient over 2^61 times a value, rounded down.
+#[inline(always)]
+pub(crate) fn product(k: i64, v: i64) -> i64
     requires coefficient { unsigned_abs k ≤ 2 ^ 62 }
     requires value { unsigned_abs v < 2 ^ 60 }
     ensures value { result ≡ fine_product k v }
-    ensures small { unsigned_abs result ≤ 2 * unsigned_abs v + 1 }
+    ensures small { unsigned_abs result ≤ 2 ^ 61 }
 {
-    ((i128::from(k) * i128::from(8 * v)) >> 64) as i64
+    upper_half(wide_product(k, v))
 }
 
-/// The output for the input `mid`.
-pub(crate) fn output_of(k: &FineCoefs, state: NarrowState, mid: i64) -> i64
-    requires mid { unsigned_abs mid < 2 ^ 60 }
-    requires first { unsigned_abs state.s1 ≤ 2 ^ 61 }
-    ensures { result ≡ fine_product k.now.b0 mid +ℤ state.s1 }
+/// The output, from the products of the input.
+#[inline(always)]
+pub(crate) fn output_of(input: InputProducts, state: NarrowState) -> i64
+    requires { unsigned_abs state.s1 ≤ 2 ^ 61 }
+    ensures { result ≡ input.b0 +ℤ state.s1 }
 {
-    product(k.b0, mid) + state.s1
+    input.b0 + state.s1
 }
 
-// The first state after a sample. What the input brings is added to the second state first: only so each sum fits.
-fn first_after(k: &FineCoefs, second: i64, mid: i64, output: i64) -> i64
-    requires mid { unsigned_abs mid < 2 ^ 60 }
-    requires output { unsigned_abs output < 2 ^ 60 }
-    requires second { unsigned_abs second ≤ 2 ^ 62 + 2 ^ 50 }
-    requires small { unsigned_abs (fine_product k.now.b1 mid +ℤ second -ℤ fine_product k.now.a1 output) ≤ 2 ^ 61 }
-    ensures { result ≡ fine_product k.now.b1 mid +ℤ second -ℤ fine_product k.now.a1 output }
-{
-    product(k.b1, mid) + second - product(k.a1, output)
-}
-
-// The second state after a sample.
-fn second_after(k: &FineCoefs, mid: i64, output: i64) -> i64
-    requires mid { unsigned_abs mid < 2 ^ 60 }
-    requires output { unsigned_abs output < 2 ^ 60 }
-    ensures { result ≡ fine_product k.now.b2 mid -ℤ fine_product k.now.a2 output }
-{
-    product(k.b2, mid) - product(k.a2, output)
-}
-
-/// The states after the input `mid` and its output. The first is at most 2^61 in size.
-pub(crate) fn state_after(k: &FineCoefs, state: NarrowState, mid: i64, output: i64) -> NarrowState
-    requires mid { unsigned_abs mid < 2 ^ 60 }
-    requires output { unsigned_abs output < 2 ^ 60 }
+/// The states after a sample with these products. The first is at most 2^61 in size. What the input brings is added to
+/// the second state first: only so each sum fits.
+#[inline(always)]
+pub(crate) fn state_after(
+    state: NarrowState,
+    input: InputProducts,
+    output: OutputProducts,
+) -> NarrowState
     requires second { unsigned_abs state.s2 ≤ 2 ^ 62 + 2 ^ 50 }
-    requires small { unsigned_abs (fine_product k.now.b1 mid +ℤ state.s2 -ℤ fine_product k.now.a1 output) ≤ 2 ^ 61 }
-    ensures first { result.s1 ≡ fine_product k.now.b1 mid +ℤ state.s2 -ℤ fine_product k.now.a1 output }
-    ensures second { result.s2 ≡ fine_product k.now.b2 mid -ℤ fine_product k.now.a2 output }
+    requires small { unsigned_abs (input.b1 +ℤ state.s2 -ℤ output.a1) ≤ 2 ^ 61 }
+    ensures first { result.s1 ≡ input.b1 +ℤ state.s2 -ℤ output.a1 }
+    ensures second { result.s2 ≡ input.b2 -ℤ output.a2 }
 {
     NarrowState {
-        s1: first_after(k, state.s2, mid, output),
-        s2: second_after(k, mid, output),
+        s1: input.b1 + state.s2 - output.a1,
+        s2: input.b2 - output.a2,
     }
 }

@@ -7,7 +7,9 @@ ghost use Rattle.flk_cert.specs.Bound.{StartsAtRest};
 ghost use Rattle.flk_cert.specs.Gain.{coefs_of};
 ghost use Rattle.flk_section.specs.Fine.{IsFine};
 
+use crate::by_kind::{input_products, output_products};
 use crate::fine::FineCoefs;
+use crate::kind::SectionKind;
 use crate::narrow::{NarrowState, output_of, state_after};
 use crate::section::first_state;
 use flk_cert::Gain;
@@ -25,6 +27,7 @@ pub struct RowSection {
 }
 
 impl RowSection {
+    ghost use Rattle.flk_section.specs.Kinds.{IsOfKind};
     ghost use Rattle.flk_section.specs.RowSection.{gain_of, coefs_in, starts_from_one, SectionStands, IsCalm};
 
     /// The section with the coefficients of the gain, before its first sample, as a `Section` begins.
@@ -46,10 +49,13 @@ impl RowSection {
         }
     }
 
-    /// Takes the next input, which lies as near to the section's rest as those before, and answers the output.
-    pub(crate) fn step(&mut self, mid: i64) -> i64
+    /// Takes the next input, which lies as near to the section's rest as those before, and answers the output. The
+    /// section is of the kind, which says what products are needed.
+    #[inline(always)]
+    pub(crate) fn step(&mut self, kind: SectionKind, mid: i64) -> i64
         requires mid { unsigned_abs mid < 2 ^ 60 }
         requires calm { ∥ IsCalm self.old mid ∥₁ }
+        requires kind { IsOfKind kind (coefs_in self.old) }
         ensures gain { gain_of self.new ≡ gain_of self.old }
         ensures start { starts_from_one self.new ≡ starts_from_one self.old }
         ensures stands { (Xs : List ℤ) → SectionStands self.old Xs → SectionStands self.new (mid ∷ Xs) }
@@ -57,8 +63,10 @@ impl RowSection {
             → result
             ≡ output (coefs_in self.old) (state_after_inputs (coefs_in self.old) (starts_from_one self.old) Xs) mid }
     {
-        let output = output_of(&self.fine, self.state, mid);
-        self.state = state_after(&self.fine, self.state, mid, output);
+        let input = input_products(kind, &self.fine, mid);
+        let output = output_of(input, self.state);
+        let fed_back = output_products(kind, &self.fine, output);
+        self.state = state_after(self.state, input, fed_back);
         output
     }
 }

@@ -30,16 +30,21 @@ fn gains_of(rt: &HostRuntime, lamp: Lamp, rate: Rate) -> Result<[Gain; 7], Fail>
     Ok(gains)
 }
 
-// The bound of the lamp's whole cascade.
-fn lamp_whole(rt: &HostRuntime, lamp: Lamp, rate: Rate) -> Result<Whole, Fail> {
-    let gains = gains_of(rt, lamp, rate)?;
-    if !fits(&gains) {
+// The bound of the whole cascade with these gains.
+fn whole_with(gains: &[Gain; 7]) -> Result<Whole, Fail> {
+    if !fits(gains) {
         return Err(Fail::new("the gains do not fit"));
     }
-    match whole_of(&gains) {
+    match whole_of(gains) {
         Some(whole) => Ok(whole),
         None => Err(Fail::new("there is no bound of the whole cascade")),
     }
+}
+
+// The bound of the lamp's whole cascade.
+fn lamp_whole(rt: &HostRuntime, lamp: Lamp, rate: Rate) -> Result<Whole, Fail> {
+    let gains = gains_of(rt, lamp, rate)?;
+    whole_with(&gains)
 }
 
 #[test]
@@ -224,6 +229,54 @@ fn changing_points(rt: HostRuntime) -> Result<(), Fail> {
                 radius: last_radius
             }
         );
+    }
+    Ok(())
+}
+
+// A point's middle, and that of the answer where the band-pass and the last lag are exchanged.
+const EXCHANGED: [(i128, i128); 5] = [
+    (0, -678),
+    (3 * ONE, -9200),
+    (ONE, -60_784),
+    (ONE / 2, -261_950),
+    (0, -832_288),
+];
+
+// Sections in another order than a design's.
+#[test]
+fn exchanged_sections(rt: HostRuntime) -> Result<(), Fail> {
+    let mut gains = gains_of(&rt, Lamp::L230, Rate::R2400)?;
+    let band_pass = gains[4];
+    gains[4] = gains[6];
+    gains[6] = band_pass;
+    let mut cascade = Cascade::new(whole_with(&gains)?);
+    assert!(rt; !cascade.of_design);
+    for (mid, last_mid) in EXCHANGED {
+        assert!(rt; mid >= 0 && mid <= 66 * ONE);
+        assert_eq!(rt; cascade.step(Point { mid, radius: 0 }).mid, last_mid);
+    }
+    Ok(())
+}
+
+// The same cascade, which takes its sections as of any kind.
+fn of_any_kind(cascade: &Cascade) -> Cascade {
+    let mut any = *cascade;
+    any.of_design = false;
+    any
+}
+
+// The sections of a design answer alike by their kinds and as sections of any kind.
+#[test]
+fn sections_by_kind(rt: HostRuntime) -> Result<(), Fail> {
+    for row in ROWS {
+        let mut by_kind = Cascade::new(lamp_whole(&rt, row.lamp, row.rate)?);
+        assert!(rt; by_kind.of_design);
+        let mut any = of_any_kind(&by_kind);
+        for i in 0..1000u32 {
+            let mid = i128::from(i) * 98_765_432_109_877 % (66 * ONE);
+            let p = Point { mid, radius: 0 };
+            assert_eq!(rt; by_kind.step(p), any.step(p));
+        }
     }
     Ok(())
 }

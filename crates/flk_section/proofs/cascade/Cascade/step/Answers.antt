@@ -13,7 +13,7 @@ use Rattle.flk_section.specs.Whole.{gains_of}
 use Rattle.flk_section.specs.Row.{StandInRow, AreReady}
 use Rattle.flk_section.proofs.RadiusLemmas.{last_radius_natural, last_radius_small}
 use Rattle.flk_section.proofs.CascadeLemmas.{answer_holds, answer_holds_signal, answer_is_narrow}
-use Rattle.flk_section.proofs.ReachedLemmas.{reached_ready, reached_more, answer_of}
+use Rattle.flk_section.proofs.ReachedLemmas.{reached_ready, reached_more, reached_design, answer_of}
 use Rattle.flk_section.proofs.cascade.Cascade.step.Goals as goal
 
 pub step_in_row-requires-clause-ready : goal.step_in_row-requires-clause-ready
@@ -24,6 +24,11 @@ step_in_row-requires-clause-ready c =
     let ready : ∥ AreReady k.sections c.args.p.mid ∥₁ = reached_ready (gains_of k.whole) k.sections c.args.p c.requires k.reached in
     simp to_z-of_z (subst (λ (z : ℤ). ∥ AreReady k.sections z ∥₁) (sym is) ready)
 
+pub step_in_row-requires-clause-design : goal.step_in_row-requires-clause-design
+step_in_row-requires-clause-design c =
+    let k = c.take_radius.new.self in
+    λ h. reached_design (gains_of k.whole) k.sections k.reached (k.design h)
+
 pub invariant_of-self : goal.invariant_of-self
 invariant_of-self c =
     let k = c.take_radius.new.self in
@@ -32,6 +37,7 @@ invariant_of-self c =
     let at : (from_one : Bool) (Xs : List ℤ) → StandInRow from_one k.sections Xs → StandInRow from_one c.step_in_row.new.sections (c.narrow-mid.result ∷ Xs) =
     simp to_z-of_z at c.step_in_row.ensures.stand in
     record {
+      design = k.design;
       greatest_low = k.greatest_low;
       greatest_high = k.greatest_high;
       follows = k.follows;
