@@ -5,6 +5,7 @@ pub mod FieldLemmas
 pub mod PlainTextLemmas
 pub mod DecimalLaws
 pub mod TextCases
+pub mod PlaceLemmas
 pub mod LineLaws
 pub mod WrittenLaws
 pub mod WholeFields

@@ -46,6 +46,7 @@ impl<'a> Fields<'a> {
 
     /// Takes the next field where it is a whole number of the usual form: a sign or none, and digits that write less
     /// than 10^12, with no space around them. None where it isn't, and then nothing is taken.
+    #[inline(always)]
     pub fn next_whole(&mut self) -> Option<i64>
         ensures { MatchOption result (self.new ≡ self.old)
             (λ z. (field : List ℕ) × (self.old ≡ field ∷ self.new) × IsWholeValue field z) }
@@ -71,6 +72,7 @@ fn cut(rest: &[u8]) -> (&[u8], Option<&[u8]>)
 
 /// The first field's number where it is a whole number of the usual form, and what follows its comma, which is None
 /// where it is the last one.
+#[inline(always)]
 fn whole_cut(rest: &[u8]) -> Option<(i64, Option<&[u8]>)>
     ensures { IfSome result (λ w. (field : List ℕ)
         × (fields rest.now ≡ field ∷ fields_left (option_map (λ r. r.now) w.1)) × IsWholeValue field w.0) }
@@ -90,6 +92,7 @@ fn whole_cut(rest: &[u8]) -> Option<(i64, Option<&[u8]>)>
 
 /// The number that the digits in front write, and how many they are, where a comma follows them or nothing. None where
 /// another byte follows, or where the number isn't below 10^12.
+#[inline(always)]
 fn digits_to_comma(bytes: &[u8]) -> Option<(u64, usize)>
     ensures within { IfSome result (λ d. d.1 ≤ length bytes.now) }
     ensures are { IfSome result (λ d. AreDigits (take d.1 bytes.now)) }
