@@ -51,6 +51,7 @@ pub fn are_spaces(bytes: &[u8]) -> bool
 }
 
 /// Takes the next field.
+#[inline(always)]
 fn next<'a>(fields: &mut Fields<'a>) -> &'a [u8]
     requires { 0 < length fields.old }
     ensures { fields.old ≡ result.now ∷ fields.new }
@@ -59,6 +60,7 @@ fn next<'a>(fields: &mut Fields<'a>) -> &'a [u8]
 }
 
 /// Takes the next field, and reads it as a whole number.
+#[inline(always)]
 fn next_whole(fields: &mut Fields<'_>) -> Result<i64, NumFault>
     requires { 0 < length fields.old }
     ensures { (field : List ℕ) × (fields.old ≡ field ∷ fields.new) × IsWholeAnswer field result }
@@ -70,6 +72,7 @@ fn next_whole(fields: &mut Fields<'_>) -> Result<i64, NumFault>
 }
 
 /// Takes the next field, and reads it as a time stamp.
+#[inline(always)]
 fn next_stamp(fields: &mut Fields<'_>) -> Result<Option<u64>, Kind>
     requires { 0 < length fields.old }
     ensures { (field : List ℕ) × (fields.old ≡ field ∷ fields.new)
@@ -82,6 +85,7 @@ fn next_stamp(fields: &mut Fields<'_>) -> Result<Option<u64>, Kind>
 }
 
 /// Reads the analog values, which begin at the third field, into a row of the columns.
+#[inline(always)]
 fn read_analog(
     fields: &mut Fields<'_>,
     channels: &Channels,
@@ -117,6 +121,7 @@ fn read_analog(
 }
 
 /// Reads the digital values, before which there are so many fields, into a row of the columns.
+#[inline(always)]
 fn read_digital(
     fields: &mut Fields<'_>,
     before: u32,
@@ -147,6 +152,7 @@ fn read_digital(
 }
 
 /// Reads the sample number, which is the first field, and the time stamp.
+#[inline(always)]
 fn read_head(fields: &mut Fields<'_>, before: Option<u32>) -> Result<Head, Fault>
     requires there { 2 ≤ length fields.old }
     ensures left { OnOk result (fields.new ≡ drop 2 fields.old) }
@@ -166,6 +172,7 @@ fn read_head(fields: &mut Fields<'_>, before: Option<u32>) -> Result<Head, Fault
 }
 
 /// Reads the fields of a line, of which there are as many as a record has.
+#[inline(always)]
 fn read_fields(
     channels: &Channels,
     before: Option<u32>,
