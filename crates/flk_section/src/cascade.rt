@@ -1,17 +1,15 @@
 //! Seven sections in a row.
 
-ghost use Rattle.std.specs.Prelude.{◌≡◌, ◌^◌, ◌<◌, Bool, true, List, [], ◌∷◌, map, IsTrue, ℤ, pos, ◌≤ℤ◌, ◌<ℤ◌};
+ghost use Rattle.std.specs.Prelude.{◌≡◌, ◌^◌, ◌<◌, true, List, [], ◌∷◌, map, IsTrue, ℤ, pos, ◌≤ℤ◌, ◌<ℤ◌};
 ghost use Rattle.std.specs.Int.{int_max};
 ghost use Rattle.std.specs.Int.RustNames.{unsigned_abs};
 ghost use Rattle.std.specs.List.{All, AllZip};
 ghost use Rattle.flk_exact.specs.Fraction.{Fraction};
-ghost use Rattle.flk_cert.specs.Gain.{coefs_of};
 ghost use Rattle.flk_front.specs.declared.point.Point.{Point as PointView};
 ghost use Rattle.flk_front.specs.Front.{IsWithin};
 ghost use Rattle.flk_design.specs.Lamp.{LampConstants};
 ghost use Rattle.flk_design.specs.Design.{IsDesign};
 ghost use Rattle.flk_section.specs.Cascade.{IsCascade, IsWeightedSignal};
-ghost use Rattle.flk_section.specs.RoundedCascade.{last_output};
 ghost use Rattle.flk_section.specs.Points.{IsPointInRange, greatest_point};
 ghost use Rattle.flk_section.specs.Radius.{FirstStartsAtRest};
 ghost use Rattle.flk_section.specs.Filter.{last_radius};

@@ -1,6 +1,6 @@
 //! One sample through the sections in a row.
 
-ghost use Rattle.std.specs.Prelude.{◌≡◌, ℕ, ◌+◌, ◌^◌, ◌<◌, Bool, List, ◌∷◌, length, map, drop, IsTrue, ℤ};
+ghost use Rattle.std.specs.Prelude.{◌≡◌, ◌+◌, ◌^◌, ◌<◌, Bool, List, ◌∷◌, length, map, drop, IsTrue, ℤ};
 ghost use Rattle.std.specs.Int.RustNames.{unsigned_abs};
 ghost use Rattle.flk_cert.specs.Gain.{coefs_of};
 ghost use Rattle.flk_section.specs.RoundedCascade.{last_output};

@@ -1,6 +1,6 @@
 //! Levels in buckets by their size, so that percentiles are selected among few of them.
 
-ghost use Rattle.std.specs.Prelude.{◌≡◌, ℕ, ◌+◌, ◌^◌, ◌<◌, ◌≤◌, List, length, map, take, pos, ℤ, slice_index};
+ghost use Rattle.std.specs.Prelude.{◌≡◌, ℕ, ◌+◌, ◌^◌, ◌<◌, ◌≤◌, length, map, take, pos, ℤ, slice_index};
 ghost use Rattle.std.specs.List.{All};
 ghost use Rattle.flk_stat.specs.Severity.{shares};
 ghost use Rattle.flk_stat.specs.Ranked.{IsShare, IsRankIn, DoRise, IsRankedSum, IsWeightedSum};

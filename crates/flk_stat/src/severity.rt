@@ -1,12 +1,11 @@
 //! The short-term flicker severity.
 
-ghost use Rattle.std.specs.Prelude.{◌≡◌, ◌+◌, ◌*◌, ◌^◌, ◌<◌, ◌≤◌, List, length, pos, ◌*ℤ◌, ◌≤ℤ◌, ◌<ℤ◌};
+ghost use Rattle.std.specs.Prelude.{◌≡◌, ◌+◌, ◌*◌, ◌^◌, ◌<◌, ◌≤◌, length, pos, ◌*ℤ◌, ◌≤ℤ◌, ◌<ℤ◌};
 ghost use Rattle.std.specs.List.{All};
 ghost use Rattle.std.specs.List.Sorted.{IsSorted};
 ghost use Rattle.std.specs.Ordering.{int_cmp};
 ghost use Rattle.flk_stat.specs.Severity.{IsCappedLeast, cap, IsLevelEnd, IsSeverityOfEnds};
-ghost use Rattle.flk_stat.specs.Ranked.{IsShare, AreWithin, together, ranked_at, weighted_total, IsSumOfPercentiles, ReachesSum};
-ghost use Rattle.flk_stat.specs.Rank.{rank_of};
+ghost use Rattle.flk_stat.specs.Ranked.{IsShare, together, ranked_at, IsSumOfPercentiles, ReachesSum};
 
 use crate::rank::ranked;
 use flk_num::{root_ceil, scaled_ceil};
