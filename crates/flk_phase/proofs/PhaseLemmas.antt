@@ -1,4 +1,4 @@
--- What one more sample does to a phase.
+-- What a sample does to a phase: first as far as the adaptor, and then behind it.
 use Rattle.std.proofs.Common.{◌≡◌, ℕ, ◌+◌, Bool, List, [], ◌∷◌, ◌++◌, map, ℤ, reverse, sym, subst, ap, ◌∙◌, arith, length-append}
 use Rattle.std.proofs.lemmas.List.{map-append}
 use Rattle.flk_exact.proofs.ListLemmas.{AllZip-push, reverse-push}
@@ -7,17 +7,19 @@ use Rattle.flk_scale.specs.declared.scale.Scale.{Scale}
 use Rattle.flk_scale.specs.Scale.{voltage_of, nominal_of, uncertainty_of}
 use Rattle.flk_scale.specs.Voltage.{is_below_zero, IsVoltageInterval, IsOverRange}
 use Rattle.flk_scale.proofs.RangeLemmas.{within_more}
+use Rattle.flk_front.specs.declared.point.Point.{Point}
 use Rattle.flk_section.specs.declared.whole.Whole.{Whole}
 use Rattle.flk_section.specs.Whole.{numbers_of}
 use Rattle.flk_result.specs.Conditions.{Conditions, conditions_for}
 use Rattle.flk_result.specs.declared.result.Setup.{Setup}
 use Rattle.flk_result.specs.Promise.{IsFilterOf}
-use Rattle.flk_phase.specs.declared.meter.Meter.{Meter}
+use Rattle.flk_phase.specs.declared.halves.Halves.{Halves}
+use Rattle.flk_phase.specs.declared.severities.Severities.{Severities}
 use Rattle.flk_phase.specs.declared.phase.Phase.{Phase}
 use Rattle.flk_phase.specs.Halves.{StandsFor as HalvesStandFor}
-use Rattle.flk_phase.specs.Meter.{StandsFor as MeterStandsFor}
+use Rattle.flk_phase.specs.Meter.{StandsAhead as MeterStandsAhead}
 use Rattle.flk_phase.specs.Severities.{StandsFor as SeveritiesStandFor}
-use Rattle.flk_phase.specs.Phase.{whole_of, conditions_of, told_by, Stands}
+use Rattle.flk_phase.specs.Phase.{whole_of, conditions_of, told_by, StandsAhead}
 
 -- ---- one sample more
 
@@ -39,15 +41,8 @@ told_push scale samples x = map-append (voltage_of scale) samples (x ∷ [])
 signs_push : (scale : Scale) (samples : List ℤ) (x : ℤ) → map is_below_zero (told_by scale (samples ++ x ∷ [])) ≡ map is_below_zero (told_by scale samples) ++ is_below_zero (voltage_of scale x) ∷ []
 signs_push scale samples x = ap (map is_below_zero) (told_push scale samples x) ∙ map-append is_below_zero (told_by scale samples) (voltage_of scale x ∷ [])
 
-meter_more : (old new : Meter) (voltages levels : List Interval) (v level : Interval)
-    → ((vs ls : List Interval) → MeterStandsFor old vs ls → MeterStandsFor new (v ∷ vs) (level ∷ ls))
-    → MeterStandsFor old (reverse voltages) (reverse levels) → MeterStandsFor new (reverse (voltages ++ v ∷ [])) (reverse (levels ++ level ∷ []))
-meter_more old new voltages levels v level step h =
-    let P : List Interval → List Interval → Type 0 = MeterStandsFor new in
-    subst (λ (vs : List Interval). P vs (reverse (levels ++ level ∷ []))) (sym (reverse-push voltages v)) (subst (P (v ∷ reverse voltages)) (sym (reverse-push levels level)) (step (reverse voltages) (reverse levels) h))
-
--- The parts of the new phase are those of the old one after the sample.
-pub record HasSample (old new : Phase) (x : ℤ) (v level : Interval) : Type 0 where
+-- The parts of the new phase are those of the old one after the sample came as far as the adaptor.
+pub record HasAdapted (old new : Phase) (x : ℤ) (v : Interval) (p : Point) : Type 0 where
   pub scale : new.scale ≡ old.scale
   pub setup : new.setup ≡ old.setup
   pub whole_is : whole_of new ≡ whole_of old
@@ -55,12 +50,11 @@ pub record HasSample (old new : Phase) (x : ℤ) (v level : Interval) : Type 0 w
   pub fine : ¬ IsOverRange (nominal_of old.scale) (voltage_of old.scale x)
   pub interval : IsVoltageInterval (nominal_of old.scale) (uncertainty_of old.scale) (voltage_of old.scale x) v
   pub halves : (signs : List Bool) (vs : List Interval) → HalvesStandFor old.halves signs vs → HalvesStandFor new.halves (signs ++ is_below_zero (voltage_of old.scale x) ∷ []) (vs ++ v ∷ [])
-  pub meter : (vs ls : List Interval) → MeterStandsFor old.meter vs ls → MeterStandsFor new.meter (v ∷ vs) (level ∷ ls)
-  pub severities : (run_in interval count : ℕ) (ls : List Interval) → SeveritiesStandFor old.severities run_in interval count ls
-      → SeveritiesStandFor new.severities run_in interval count (ls ++ level ∷ [])
+  pub meter : (vs ls : List Interval) (waiting : List Point) → MeterStandsAhead old.meter vs waiting ls → MeterStandsAhead new.meter (v ∷ vs) (p ∷ waiting) ls
+  pub severities : new.severities ≡ old.severities
 
-pub stands_sample : (old new : Phase) (samples : List ℤ) (x : ℤ) (v level : Interval) → HasSample old new x v level → Stands old samples → Stands new (samples ++ x ∷ [])
-stands_sample old new samples x v level s h =
+pub stands_adapted : (old new : Phase) (samples : List ℤ) (waiting : List Point) (x : ℤ) (v : Interval) (p : Point) → HasAdapted old new x v p → StandsAhead old samples waiting → StandsAhead new (samples ++ x ∷ []) (p ∷ waiting)
+stands_adapted old new samples waiting x v p s h =
     let told = told_push old.scale samples x in
     let setup = old.setup in
     let halves = s.halves (map is_below_zero (told_by old.scale samples)) h.voltages h.halves in
@@ -68,12 +62,40 @@ stands_sample old new samples x v level s h =
       filter = moved_filter (conditions_of old) (conditions_of new) (whole_of old) (whole_of new) (conditions_stay old new s.scale s.setup s.whole_is) s.whole_is h.filter;
       within = rw (s.scale, told) (within_more (nominal_of old.scale) (told_by old.scale samples) (voltage_of old.scale x) h.within s.fine);
       voltages = h.voltages ++ v ∷ [];
-      levels = h.levels ++ level ∷ [];
+      levels = h.levels;
       are_voltages = rw (s.scale, told)
           (AllZip-push (IsVoltageInterval (nominal_of old.scale) (uncertainty_of old.scale)) (told_by old.scale samples) h.voltages (voltage_of old.scale x) v h.are_voltages s.interval);
       halves = rw (s.scale, signs_push old.scale samples x) halves;
-      meter = meter_more old.meter new.meter h.voltages h.levels v level s.meter h.meter;
-      severities = rw s.setup (s.severities setup.run_in setup.interval setup.count h.levels h.severities);
-      level_each = omega (arith, h.level_each, length-append h.levels (level ∷ []), length-append samples (x ∷ []));
+      meter = subst (λ (vs : List Interval). MeterStandsAhead new.meter vs (p ∷ waiting) (reverse h.levels)) (sym (reverse-push h.voltages v)) (s.meter (reverse h.voltages) (reverse h.levels) waiting h.meter);
+      severities = rw s.setup (subst (λ (t : Severities). SeveritiesStandFor t setup.run_in setup.interval setup.count h.levels) (sym s.severities) h.severities);
+      level_each = omega (arith, h.level_each, length-append samples (x ∷ []));
       taken = omega (arith, s.taken, h.taken, length-append samples (x ∷ []));
+    }
+
+-- The parts of the new phase are those of the old one after the oldest point that waits came through the weighting
+-- filter and the smoothing.
+pub record HasWeighed (old new : Phase) (p : Point) (level : Interval) : Type 0 where
+  pub scale : new.scale ≡ old.scale
+  pub setup : new.setup ≡ old.setup
+  pub whole_is : whole_of new ≡ whole_of old
+  pub taken : new.taken ≡ old.taken
+  pub halves : new.halves ≡ old.halves
+  pub meter : (vs ls : List Interval) (waiting : List Point) → MeterStandsAhead old.meter vs (waiting ++ p ∷ []) ls → MeterStandsAhead new.meter vs waiting (level ∷ ls)
+  pub severities : (run_in interval count : ℕ) (ls : List Interval) → SeveritiesStandFor old.severities run_in interval count ls
+      → SeveritiesStandFor new.severities run_in interval count (ls ++ level ∷ [])
+
+pub stands_weighed : (old new : Phase) (samples : List ℤ) (waiting : List Point) (p : Point) (level : Interval) → HasWeighed old new p level → StandsAhead old samples (waiting ++ p ∷ []) → StandsAhead new samples waiting
+stands_weighed old new samples waiting p level s h =
+    let setup = old.setup in
+    record {
+      filter = moved_filter (conditions_of old) (conditions_of new) (whole_of old) (whole_of new) (conditions_stay old new s.scale s.setup s.whole_is) s.whole_is h.filter;
+      within = rw s.scale h.within;
+      voltages = h.voltages;
+      levels = h.levels ++ level ∷ [];
+      are_voltages = rw s.scale h.are_voltages;
+      halves = rw s.scale (subst (λ (t : Halves). HalvesStandFor t (map is_below_zero (told_by old.scale samples)) h.voltages) (sym s.halves) h.halves);
+      meter = subst (λ (ls : List Interval). MeterStandsAhead new.meter (reverse h.voltages) waiting ls) (sym (reverse-push h.levels level)) (s.meter (reverse h.voltages) (reverse h.levels) waiting h.meter);
+      severities = rw s.setup (s.severities setup.run_in setup.interval setup.count h.levels h.severities);
+      level_each = omega (arith, h.level_each, length-append h.levels (level ∷ []), length-append waiting (p ∷ []));
+      taken = s.taken ∙ h.taken;
     }

@@ -1,7 +1,11 @@
 -- What a phase becomes by samples.
-use Rattle.std.proofs.Common.{◌≡◌, ℕ, ◌+◌, ◌<◌, ◌≤◌, List, [], ◌∷◌, ◌++◌, length, get_or, take, reverse, ℤ, pos, true, false, Option, None, Some, IfNone, IfSome, refl, sym, subst, ap, ◌∙◌, arith, ⊎_elim, length-append, length-take, length-take-le, append_assoc}
+use Rattle.std.proofs.Common.{◌≡◌, ℕ, ◌+◌, ◌<◌, set, drop, take-add, append-nil, ◌≤◌, List, [], ◌∷◌, ◌++◌, ◌-◌, length, get_or, take, reverse, ℤ, pos, true, false, Option, None, Some, IfNone, IfSome, refl, sym, subst, ap, ◌∙◌, arith, ⊎_elim, length-append, length-take, length-drop, length-take-le, append_assoc}
 use borrow.Author.Count.{below_more}
-use Rattle.std.proofs.lemmas.List.{take_more, take_all, get_or-map, length-map}
+use Rattle.std.specs.List.{All}
+use Rattle.std.proofs.lemmas.Bool.{cases_lt}
+use Rattle.std.proofs.lemmas.List.{take_more, take_more_set, take_all, drop_more, get_or-map, get_or-drop, length-map, drop_all, take-take, get_or-take, reverse-append}
+use Rattle.std.proofs.lemmas.List.Elements.{All-push}
+use Rattle.flk_exact.proofs.ListLemmas.{reverse-push}
 use Rattle.std.specs.Option.{is_some}
 use Rattle.flk_exact.specs.Fraction.{whole}
 use Rattle.flk_scale.specs.declared.scale.Scale.{Scale}
@@ -9,14 +13,16 @@ use Rattle.flk_scale.specs.Scale.{voltage_of, nominal_of}
 use Rattle.flk_scale.specs.Voltage.{IsOverRange}
 use Rattle.flk_scale.specs.Range.{voltage_at, IsWithinRange, IsFirstOver}
 use Rattle.flk_scale.proofs.RangeLemmas.{over_cases, within_has_no_over, one_over}
+use Rattle.flk_front.specs.declared.point.Point.{Point}
+use Rattle.flk_section.specs.Points.{IsPointInRange}
 use Rattle.flk_phase.specs.declared.meter.Meter.{Meter}
 use Rattle.flk_phase.specs.declared.severities.Severities.{Severities}
 use Rattle.flk_phase.specs.declared.phase.Phase.{Phase}
 use Rattle.flk_phase.specs.Halves.{AreSameHalves}
 use Rattle.flk_phase.specs.Meter.{StandsFor as MeterStandsFor, whole_of as whole_of_meter}
 use Rattle.flk_phase.specs.Severities.{StandsFor as SeveritiesStandFor}
-use Rattle.flk_phase.specs.Phase.{scale_of, whole_of, conditions_of, taken_of, spare_of, over_of, told_by, Stands}
-use Rattle.flk_phase.specs.Taking.{IsMadeAlike, HasTaken, TookAll, StoppedAt, IsSamePhase, Takes}
+use Rattle.flk_phase.specs.Phase.{scale_of, whole_of, conditions_of, taken_of, spare_of, over_of, told_by, Stands, StandsAhead}
+use Rattle.flk_phase.specs.Taking.{IsMadeAlike, HasTaken, IsCountWithin, TookAll, StoppedAt, IsSamePhase, Takes}
 use Rattle.flk_phase.proofs.PhaseLemmas.{conditions_stay, moved_filter}
 
 -- ---- a phase with other room
@@ -74,15 +80,32 @@ alike_twice old mid new a b = record {
 
 -- ---- one sample more
 
-pub taken_more : (old mid new : Phase) (xs : List ℤ) (k : ℕ) (x : ℤ) → k < length xs → x ≡ get_or xs k (pos 0) → HasTaken old mid (take k xs) → HasTaken mid new (x ∷ [])
-    → HasTaken old new (take (k + 1) xs)
-taken_more old mid new xs k x less is before after =
+abbrev pub no_point : Point
+no_point = record { mid = pos 0; radius = pos 0 }
+
+pub ahead_more : (new : Phase) (samples xs : List ℤ) (points : List Point) (k : ℕ) (x : ℤ) (p : Point) → k < length xs → k < length points → x ≡ get_or xs k (pos 0)
+    → StandsAhead new ((samples ++ take k xs) ++ x ∷ []) (p ∷ reverse (take k points)) → StandsAhead new (samples ++ take (k + 1) xs) (reverse (take (k + 1) (set points k p)))
+ahead_more new samples xs points k x p less room is h =
     let split : take (k + 1) xs ≡ take k xs ++ x ∷ [] = rw is (take_more xs k (pos 0) less) in
-    record {
-      taken = rw split (omega (arith, before.taken, after.taken, length-append (take k xs) (x ∷ [])));
-      stands = λ samples h.
-          subst (Stands new) (append_assoc samples (take k xs) (x ∷ []) ∙ ap (λ ys. samples ++ ys) (sym split)) (after.stands (samples ++ take k xs) (before.stands samples h));
-    }
+    let those : (samples ++ take k xs) ++ x ∷ [] ≡ samples ++ take (k + 1) xs = append_assoc samples (take k xs) (x ∷ []) ∙ ap (λ ys. samples ++ ys) (sym split) in
+    let points_then : p ∷ reverse (take k points) ≡ reverse (take (k + 1) (set points k p)) = sym (ap reverse (take_more_set points k p room) ∙ reverse-push (take k points) p) in
+    subst (λ (ps : List Point). StandsAhead new (samples ++ take (k + 1) xs) ps) points_then (subst (λ (ys : List ℤ). StandsAhead new ys (p ∷ reverse (take k points))) those h)
+
+pub points_more : (points : List Point) (k : ℕ) (p : Point) → k < length points → IsPointInRange p → All IsPointInRange (take k points) → All IsPointInRange (take (k + 1) (set points k p))
+points_more points k p room fine h =
+    subst (λ (ps : List Point). All IsPointInRange ps) (sym (take_more_set points k p room)) (All-push IsPointInRange (take k points) p h fine)
+
+-- none waits behind the last one
+pub none_waits : (new : Phase) (samples : List ℤ) (points : List Point) (k : ℕ) → length points ≤ k → StandsAhead new samples (reverse (drop k points)) → Stands new samples
+none_waits new samples points k all h = subst (λ (ps : List Point). StandsAhead new samples (reverse ps)) (drop_all k points all) h
+
+-- the points from one on wait, and then those from the next one on
+pub waiting_less : (old new : Phase) (samples : List ℤ) (points : List Point) (k : ℕ) (p : Point) → k < length points → p ≡ get_or points k no_point
+    → ((waiting : List Point) → StandsAhead old samples (waiting ++ p ∷ []) → StandsAhead new samples waiting) → StandsAhead old samples (reverse (drop k points)) → StandsAhead new samples (reverse (drop (k + 1) points))
+waiting_less old new samples points k p less is step h =
+    let rest = drop (k + 1) points in
+    let here : reverse (drop k points) ≡ reverse rest ++ p ∷ [] = rw is (ap reverse (drop_more points k no_point less) ∙ reverse-append (get_or points k no_point ∷ []) rest) in
+    step (reverse rest) (subst (λ (ps : List Point). StandsAhead old samples ps) here h)
 
 -- none of the first n samples is over range
 abbrev pub NoneBelow : Scale → List ℤ → ℕ → Type 0
@@ -115,6 +138,55 @@ first_over scale xs n less none over = record {
   first = λ k low again. none k low (subst (IsOverRange (nominal_of scale)) (told_at scale xs k (omega (arith, low, less))) again);
 }
 
+-- ---- one part more
+
+-- what is so of the samples of a part is so of all samples, where the part begins behind k of them
+pub none_in_part : (old mid : Scale) (xs : List ℤ) (k n : ℕ) → mid ≡ old → NoneBelow old xs k → NoneBelow mid (drop k xs) n → NoneBelow old xs (k + n)
+none_in_part old mid xs k n scale before here = λ j less over.
+    ⊎_elim (λ low. before j low over)
+    (λ high.
+    let place : k + (j - k) ≡ j = omega (arith, high) in
+    let same : get_or xs j (pos 0) ≡ get_or (drop k xs) (j - k) (pos 0) = ap (λ (i : ℕ). get_or xs i (pos 0)) (sym place) ∙ sym (get_or-drop k xs (j - k) (pos 0)) in
+    here (j - k) (omega (arith, less, high)) (at_scale old mid (get_or (drop k xs) (j - k) (pos 0)) (get_or xs j (pos 0)) scale (sym same) over))
+    (cases_lt j k)
+
+pub taken_part : (old mid new : Phase) (xs : List ℤ) (k n : ℕ) → k + n ≤ length xs → HasTaken old mid (take k xs) → HasTaken mid new (take n (drop k xs)) → HasTaken old new (take (k + n) xs)
+taken_part old mid new xs k n within before after =
+    let split : take (k + n) xs ≡ take k xs ++ take n (drop k xs) = take-add k n xs in
+    record {
+      taken = rw split (omega (arith, before.taken, after.taken, length-append (take k xs) (take n (drop k xs))));
+      stands = λ samples h.
+          subst (Stands new) (append_assoc samples (take k xs) (take n (drop k xs)) ∙ ap (λ ys. samples ++ ys) (sym split)) (after.stands (samples ++ take k xs) (before.stands samples h));
+    }
+
+-- all samples of a list were taken
+pub count_all : (scale : Scale) (xs : List ℤ) (n count : ℕ) → count ≡ n → n ≡ length xs → NoneBelow scale xs n → IsCountWithin scale xs count
+count_all scale xs n count same all none = record {
+  few = omega (arith, same, all);
+  none = λ k less. none k (omega (arith, less, same));
+  over = λ less. absurd (omega (arith, less, same, all));
+}
+
+-- those before one over range were
+pub count_stopped : (old mid : Scale) (xs : List ℤ) (n count : ℕ) (x : ℤ) → count ≡ n → n < length xs → mid ≡ old → x ≡ get_or xs n (pos 0) → NoneBelow old xs n
+    → IsOverRange (nominal_of mid) (voltage_of mid x) → IsCountWithin old xs count
+count_stopped old mid xs n count x same less scale is none over = record {
+  few = omega (arith, same, less);
+  none = λ k low. none k (omega (arith, low, same));
+  over = λ _. from_scale old mid x (get_or xs count (pos 0)) scale (is ∙ ap (λ (i : ℕ). get_or xs i (pos 0)) (sym same)) over;
+}
+
+-- n samples of a part of m samples behind the first k
+pub part_taken : (old mid new : Phase) (xs : List ℤ) (k m n : ℕ) → k ≤ length xs → scale_of mid ≡ scale_of old → IsCountWithin (scale_of mid) (take m (drop k xs)) n → HasTaken old mid (take k xs)
+    → HasTaken mid new (take n (take m (drop k xs))) → NoneBelow (scale_of old) xs k → (k + n ≤ length xs) × HasTaken old new (take (k + n) xs) × NoneBelow (scale_of old) xs (k + n)
+part_taken old mid new xs k m n there scale count before after none =
+    let few : n ≤ m = omega (arith, count.few, length-take m (drop k xs)) in
+    let within : k + n ≤ length xs = omega (arith, there, count.few, length-take m (drop k xs), length-drop k xs) in
+    let these : HasTaken mid new (take n (drop k xs)) = subst (HasTaken mid new) (take-take n m (drop k xs) few) after in
+    let fine : NoneBelow (scale_of mid) (drop k xs) n = λ j less.
+    subst (λ (y : ℤ). ¬ IsOverRange (nominal_of (scale_of mid)) (voltage_of (scale_of mid) y)) (get_or-take m (drop k xs) j (pos 0) (omega (arith, less, few))) (count.none j less) in
+    (within, taken_part old mid new xs k n within before these, none_in_part (scale_of old) (scale_of mid) xs k n scale none fine)
+
 pub took_all : (old new : Phase) (xs : List ℤ) (n : ℕ) → n ≡ length xs → NoneBelow (scale_of old) xs n → HasTaken old new (take n xs) → TookAll old new xs
 took_all old new xs n all none has =
     let every : take n xs ≡ xs = take_all n xs (omega (arith, all)) in
@@ -131,6 +203,17 @@ stopped_at old mid new xs n x less unchanged scale is none over has =
       has = has;
     } in
     subst (λ (p : Phase). StoppedAt old p xs (taken_of p + 1)) (sym unchanged) there
+
+pub part_stopped : (old mid new : Phase) (xs : List ℤ) (k m n : ℕ) → k ≤ length xs → scale_of mid ≡ scale_of old → scale_of new ≡ scale_of mid → IsCountWithin (scale_of mid) (take m (drop k xs)) n
+    → n < length (take m (drop k xs)) → HasTaken old mid (take k xs) → HasTaken mid new (take n (take m (drop k xs))) → NoneBelow (scale_of old) xs k → StoppedAt old new xs (taken_of new + 1)
+part_stopped old mid new xs k m n there scale then count less before after none =
+    let t = part_taken old mid new xs k m n there scale count before after none in
+    let low : k + n < length xs = omega (arith, there, less, length-take m (drop k xs), length-drop k xs) in
+    let few : n < m = omega (arith, less, length-take m (drop k xs)) in
+    let same : get_or (take m (drop k xs)) n (pos 0) ≡ get_or xs (k + n) (pos 0) = get_or-take m (drop k xs) n (pos 0) few ∙ get_or-drop k xs n (pos 0) in
+    let over : IsOverRange (nominal_of (scale_of new)) (voltage_of (scale_of new) (get_or xs (k + n) (pos 0))) =
+    at_scale (scale_of mid) (scale_of new) (get_or xs (k + n) (pos 0)) (get_or (take m (drop k xs)) n (pos 0)) then (sym same) (count.over less) in
+    stopped_at old new new xs (k + n) (get_or xs (k + n) (pos 0)) low refl (then ∙ scale) refl t.2 over t.1
 
 -- ---- all samples
 

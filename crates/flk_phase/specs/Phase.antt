@@ -1,5 +1,6 @@
--- What the state of a phase stands for. Samples, voltages and levels are lists in the order of time.
-use Rattle.std.specs.Prelude.{◌≡◌, ℕ, List, length, map, reverse, slice_index_or, Option, None, ℤ, pos}
+-- What the state of a phase stands for. Samples, voltages and levels are lists in the order of time; points that wait
+-- for the weighting filter have the newest first.
+use Rattle.std.specs.Prelude.{◌≡◌, ℕ, ◌+◌, List, [], length, map, reverse, slice_index_or, Option, None, ℤ, pos}
 use Rattle.std.specs.List.{AllZip}
 use Rattle.flk_exact.specs.Fraction.{Fraction}
 use Rattle.flk_num.specs.declared.interval.Interval.{Interval}
@@ -7,6 +8,7 @@ use Rattle.flk_scale.specs.declared.scale.Scale.{Scale}
 use Rattle.flk_scale.specs.Scale.{voltage_of, nominal_of, uncertainty_of}
 use Rattle.flk_scale.specs.Voltage.{is_below_zero, IsVoltageInterval}
 use Rattle.flk_scale.specs.Range.{IsWithinRange}
+use Rattle.flk_front.specs.declared.point.Point.{Point}
 use Rattle.flk_section.specs.declared.whole.Whole.{Whole}
 use Rattle.flk_section.specs.Whole.{numbers_of}
 use Rattle.flk_dat.specs.Records.{DataRecord}
@@ -15,7 +17,7 @@ use Rattle.flk_result.specs.Conditions.{Conditions, conditions_for}
 use Rattle.flk_result.specs.Promise.{IsFilterOf}
 use Rattle.flk_phase.specs.declared.phase.Phase.{Phase}
 use Rattle.flk_phase.specs.Halves.{spare_of as spare_of_halves, StandsFor as HalvesStandFor}
-use Rattle.flk_phase.specs.Meter.{whole_of as whole_of_meter, StandsFor as MeterStandsFor}
+use Rattle.flk_phase.specs.Meter.{whole_of as whole_of_meter, StandsAhead as MeterStandsAhead}
 use Rattle.flk_phase.specs.Severities.{StandsFor as SeveritiesStandFor}
 
 -- the scale of its channel
@@ -67,8 +69,8 @@ pub record IsMadeFor (p : Phase) (scale : Scale) (channel : ℕ) (setup : Setup)
 
 -- The state stands for these samples of its channel, none of which records a voltage over range: the half-periods stand
 -- for the signs and the intervals of the recorded voltages, the flickermeter for the intervals, and the severities for
--- the flickermeter's levels.
-pub record Stands (p : Phase) (samples : List ℤ) : Type 0 where
+-- the flickermeter's levels. The newest samples have points that wait for the weighting filter, and no level yet.
+pub record StandsAhead (p : Phase) (samples : List ℤ) (waiting : List Point) : Type 0 where
   pub filter : IsFilterOf (conditions_of p) (whole_of p)
   pub within : IsWithinRange (nominal_of p.scale) (told_by p.scale samples)
   pub voltages : List Interval
@@ -76,7 +78,11 @@ pub record Stands (p : Phase) (samples : List ℤ) : Type 0 where
   pub are_voltages : AllZip (IsVoltageInterval (nominal_of p.scale) (uncertainty_of p.scale))
       (told_by p.scale samples) voltages
   pub halves : HalvesStandFor p.halves (map is_below_zero (told_by p.scale samples)) voltages
-  pub meter : MeterStandsFor p.meter (reverse voltages) (reverse levels)
+  pub meter : MeterStandsAhead p.meter (reverse voltages) waiting (reverse levels)
   pub severities : SeveritiesStandFor p.severities p.setup.run_in p.setup.interval p.setup.count levels
-  pub level_each : length levels ≡ length samples
+  pub level_each : length levels + length waiting ≡ length samples
   pub taken : p.taken ≡ length samples
+
+-- the same with no point that waits: each sample has its level
+abbrev pub Stands : Phase → (samples : List ℤ) → Type 0
+Stands p samples = StandsAhead p samples []

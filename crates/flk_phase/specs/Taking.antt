@@ -1,6 +1,8 @@
 -- What a phase becomes by samples.
-use Rattle.std.specs.Prelude.{◌≡◌, ℕ, ◌+◌, ◌^◌, ◌<◌, ◌≤◌, List, ◌++◌, length, take, None, Some, ℤ}
-use Rattle.flk_scale.specs.Scale.{nominal_of}
+use Rattle.std.specs.Prelude.{◌≡◌, ℕ, ◌+◌, ◌^◌, ◌<◌, ◌≤◌, List, ◌++◌, length, take, slice_index_or, None, Some, ℤ, pos}
+use Rattle.flk_scale.specs.declared.scale.Scale.{Scale}
+use Rattle.flk_scale.specs.Scale.{nominal_of, voltage_of}
+use Rattle.flk_scale.specs.Voltage.{IsOverRange}
 use Rattle.flk_scale.specs.Range.{IsWithinRange, IsFirstOver}
 use Rattle.flk_dat.specs.Records.{Rows}
 use Rattle.flk_phase.specs.declared.phase.Phase.{Phase}
@@ -17,6 +19,13 @@ pub record IsMadeAlike (old new : Phase) : Type 0 where
 pub record HasTaken (old new : Phase) (xs : List ℤ) : Type 0 where
   pub taken : taken_of new ≡ taken_of old + length xs
   pub stands : (samples : List ℤ) → Stands old samples → Stands new (samples ++ xs)
+
+-- so many of the samples come before the first one over range, or are all
+pub record IsCountWithin (scale : Scale) (xs : List ℤ) (count : ℕ) : Type 0 where
+  pub few : count ≤ length xs
+  pub none : (k : ℕ) → k < count → ¬ IsOverRange (nominal_of scale) (voltage_of scale (slice_index_or xs k (pos 0)))
+  pub over : count < length xs
+      → IsOverRange (nominal_of scale) (voltage_of scale (slice_index_or xs count (pos 0)))
 
 -- it took them all, and none is over range
 pub record TookAll (old new : Phase) (xs : List ℤ) : Type 0 where

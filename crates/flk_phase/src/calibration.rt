@@ -57,7 +57,8 @@ fn greatest_level(meter: &mut Meter) -> i128 {
     let mut change = Sine::new(2_305_231_105_444_580_500, 26_559_055_096_242_007);
     let mut greatest = 0;
     for n in 0..288_000 {
-        let level = meter.push(voltage(mains.next(), change.next()));
+        let point = meter.adapt(voltage(mains.next(), change.next()));
+        let level = meter.weigh(point);
         if n >= 144_000 {
             greatest = level.hi.max(greatest);
         }

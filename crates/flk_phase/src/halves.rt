@@ -129,6 +129,7 @@ impl Halves {
 
     /// Takes the next sample: whether its recorded voltage is negative, and the interval of its voltages in units of
     /// 2^-48 of nominal, with ends of at most five times nominal in size. There is room for it. Takes no memory.
+    #[inline(always)]
     pub(crate) fn push(&mut self, negative: bool, voltage: Interval)
         requires low { unsigned_abs voltage.lo ≤ 5 * 2 ^ 48 }
         requires high { unsigned_abs voltage.hi ≤ 5 * 2 ^ 48 }

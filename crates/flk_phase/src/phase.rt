@@ -1,10 +1,13 @@
 //! One channel of a recording, from its samples to its result.
 
-ghost use Rattle.std.specs.Prelude.{◌≡◌, ℕ, ◌+◌, ◌^◌, ◌<◌, ◌≤◌, List, [], ◌∷◌, ◌++◌, length, IfOk, IfSome, IfNone, OnOk, OnErr, ℤ};
+ghost use Rattle.std.specs.Prelude.{◌≡◌, ℕ, ◌+◌, ◌^◌, ◌<◌, ◌≤◌, List, [], ◌∷◌, ◌++◌, length, take, reverse, IfOk, IfSome, IfNone, OnOk, OnErr, ℤ};
+ghost use Rattle.std.specs.List.{All};
 ghost use Rattle.flk_num.specs.Lamp.{window_of as window_of_lamp};
 ghost use Rattle.flk_num.specs.Rate.{half_at, sampling_interval};
 ghost use Rattle.flk_scale.specs.Scale.{voltage_of, nominal_of};
 ghost use Rattle.flk_scale.specs.Voltage.{IsOverRange};
+ghost use Rattle.flk_front.specs.declared.point.Point.{Point as PointView};
+ghost use Rattle.flk_section.specs.Points.{IsPointInRange};
 ghost use Rattle.flk_design.specs.Lamp.{constants_of};
 ghost use Rattle.flk_design.specs.Design.{IsDesign};
 ghost use Rattle.flk_section.specs.Whole.{numbers_of};
@@ -21,11 +24,18 @@ use crate::meter::Meter;
 use crate::severities::Severities;
 use flk_change::OutOfMemory;
 use flk_dat::Block;
+use flk_front::Point;
 use flk_num::crosses_threads;
 use flk_result::{PhaseResult, Setup};
 use flk_scale::{OverRange, Scale};
 use flk_section::Whole;
 use std::alloc::Global;
+
+// How many samples a part has at most.
+const PART: usize = 256;
+
+// What stands in a list of points where none was put yet.
+const NO_POINT: Point = Point { mid: 0, radius: 0 };
 
 /// Works the samples of one channel.
 #[derive(Drop)]
@@ -51,8 +61,8 @@ pub struct Phase {
 }
 
 impl Phase {
-    ghost use Rattle.flk_phase.specs.Phase.{scale_of, conditions_of, taken_of, spare_of, over_of, told_by, IsMadeFor, Stands};
-    ghost use Rattle.flk_phase.specs.Taking.{IsMadeAlike, IsSamePhase, HasTaken, TookAll, StoppedAt, TakesBlock, MayTake};
+    ghost use Rattle.flk_phase.specs.Phase.{scale_of, conditions_of, taken_of, spare_of, over_of, told_by, IsMadeFor, Stands, StandsAhead};
+    ghost use Rattle.flk_phase.specs.Taking.{IsMadeAlike, IsSamePhase, HasTaken, IsCountWithin, TookAll, StoppedAt, TakesBlock, MayTake};
 
     /// A phase that has taken nothing, with room for no sample, for a channel, from 0, with this scale. The bound is
     /// that of a cascade with the coefficients of the lamp's design at the sampling rate. The error comes only where no
@@ -110,14 +120,19 @@ impl Phase {
         self.over
     }
 
-    // Takes the next sample. The error is that its voltage is over range.
-    fn sample(&mut self, x: i32) -> Result<(), OverRange>
+    // Takes the next sample as far as the adaptor, and answers its point, which waits for the weighting filter from
+    // then on. The error is that its voltage is over range.
+    #[inline(always)]
+    fn adapt(&mut self, x: i32) -> Result<Point, OverRange>
         requires spare { 0 < spare_of self.old }
         requires few { taken_of self.old + 1 < 2 ^ 32 }
         ensures alike { IsMadeAlike self.old self.new }
         ensures over { over_of self.new ≡ over_of self.old }
         ensures spare { OnOk result (spare_of self.new + 1 ≡ spare_of self.old) }
-        ensures taken { OnOk result (HasTaken self.old self.new (x ∷ [])) }
+        ensures taken { OnOk result (taken_of self.new ≡ taken_of self.old + 1) }
+        ensures ahead { IfOk result (λ p. (samples : List ℤ) (waiting : List PointView)
+            → StandsAhead self.old samples waiting → StandsAhead self.new (samples ++ x ∷ []) (p ∷ waiting)) }
+        ensures point { IfOk result IsPointInRange }
         ensures within { OnOk result
             (¬ IsOverRange (nominal_of (scale_of self.old)) (voltage_of (scale_of self.old) x)) }
         ensures over_range { OnErr result
@@ -131,9 +146,81 @@ impl Phase {
         let negative = self.scale.negative(x);
         self.taken += 1;
         self.halves.push(negative, voltage);
-        let level = self.meter.push(voltage);
+        Ok(self.meter.adapt(voltage))
+    }
+
+    // Takes the oldest point that waits through the weighting filter and the smoothing, and judges the level.
+    #[inline(always)]
+    fn weigh(&mut self, point: Point)
+        requires { IsPointInRange point }
+        ensures alike { IsMadeAlike self.old self.new }
+        ensures over { over_of self.new ≡ over_of self.old }
+        ensures spare { spare_of self.new ≡ spare_of self.old }
+        ensures taken { taken_of self.new ≡ taken_of self.old }
+        ensures ahead { (samples : List ℤ) (waiting : List PointView)
+            → StandsAhead self.old samples (waiting ++ point ∷ []) → StandsAhead self.new samples waiting }
+    {
+        let level = self.meter.weigh(point);
         self.severities.push(level);
-        Ok(())
+    }
+
+    // Takes a part's samples up to the first one over range as far as the adaptor, and answers how many it took. Their
+    // points are then the first ones of the list.
+    fn adapt_part(&mut self, xs: &[i32], points: &mut [Point; PART]) -> usize
+        requires short { length xs.now ≤ 256 }
+        requires spare { length xs.now ≤ spare_of self.old }
+        requires few { taken_of self.old + length xs.now < 2 ^ 32 }
+        ensures alike { IsMadeAlike self.old self.new }
+        ensures over { over_of self.new ≡ over_of self.old }
+        ensures spare { spare_of self.new + result ≡ spare_of self.old }
+        ensures taken { taken_of self.new ≡ taken_of self.old + result }
+        ensures count { IsCountWithin (scale_of self.old) xs.now result }
+        ensures ahead { (samples : List ℤ) → Stands self.old samples
+            → StandsAhead self.new (samples ++ take result xs.now) (reverse (take result points.new)) }
+        ensures points { All IsPointInRange (take result points.new) }
+    {
+        let mut count = 0;
+        for x in xs {
+            let Ok(point) = self.adapt(*x) else {
+                return count;
+            };
+            points[count] = point;
+            count += 1;
+        }
+        count
+    }
+
+    // Takes all points that wait, the oldest first, through the weighting filter and the smoothing.
+    fn weigh_part(&mut self, points: &[Point])
+        requires { All IsPointInRange points.now }
+        ensures alike { IsMadeAlike self.old self.new }
+        ensures over { over_of self.new ≡ over_of self.old }
+        ensures spare { spare_of self.new ≡ spare_of self.old }
+        ensures taken { taken_of self.new ≡ taken_of self.old }
+        ensures stands { (samples : List ℤ) → StandsAhead self.old samples (reverse points.now)
+            → Stands self.new samples }
+    {
+        for point in points {
+            self.weigh(*point);
+        }
+    }
+
+    // Takes a part's samples up to the first one over range, and answers how many it took. The list is room for their
+    // points. (Two loops, since a processor works many turns of each at once, where the turns of one loop over both
+    // would wait for one another.)
+    fn take_part(&mut self, xs: &[i32], points: &mut [Point; PART]) -> usize
+        requires short { length xs.now ≤ 256 }
+        requires spare { length xs.now ≤ spare_of self.old }
+        requires few { taken_of self.old + length xs.now < 2 ^ 32 }
+        ensures alike { IsMadeAlike self.old self.new }
+        ensures over { over_of self.new ≡ over_of self.old }
+        ensures spare { spare_of self.new + result ≡ spare_of self.old }
+        ensures count { IsCountWithin (scale_of self.old) xs.now result }
+        ensures has { HasTaken self.old self.new (take result xs.now) }
+    {
+        let count = self.adapt_part(xs, points);
+        self.weigh_part(&points[..count]);
+        count
     }
 
     // Takes samples up to the first one over range, and answers the position of that one.
@@ -145,10 +232,15 @@ impl Phase {
         ensures none { IfNone result (TookAll self.old self.new xs.now) }
         ensures some { IfSome result (λ position. StoppedAt self.old self.new xs.now position) }
     {
-        for x in xs {
-            let Ok(()) = self.sample(*x) else {
+        let mut points = [NO_POINT; PART];
+        let mut at = 0;
+        while at < xs.len() {
+            let part = &xs[at..at + (xs.len() - at).min(PART)];
+            let count = self.take_part(part, &mut points);
+            at += count;
+            if count < part.len() {
                 return Some(self.taken + 1);
-            };
+            }
         }
         None
     }

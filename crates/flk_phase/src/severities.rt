@@ -84,6 +84,7 @@ impl Severities {
     }
 
     // Adds a level to those of an interval, and answers the interval's severity where it was the last one.
+    #[inline(always)]
     fn with_level(levels: &mut Levels, level: Interval) -> Option<Interval>
         requires room { 0 < room_of levels.old }
         requires low { pos 0 ≤ℤ level.lo }
@@ -101,6 +102,7 @@ impl Severities {
 
     /// Takes the level of the next sample, an interval from 0 to below 2^93 in units of 2^-48. The levels of the run-in
     /// and those behind the last interval are not judged. Takes no memory.
+    #[inline(always)]
     pub(crate) fn push(&mut self, level: Interval)
         requires low { pos 0 ≤ℤ level.lo }
         requires high { level.hi <ℤ pos (2 ^ 93) }
