@@ -1,5 +1,5 @@
 -- The fields of a line by their place, and the first of them that isn't in its set.
-use Rattle.std.proofs.Common.{◌≡◌, ℕ, zero, suc, ◌+◌, ◌-◌, ◌<◌, ◌≤◌, List, [], ◌∷◌, length, get_or, drop, true, false, Bool, Option, ltb, eqb, refl, sym, ap, subst, ◌∙◌, arith, inl, inr, ℤ}
+use Rattle.std.proofs.Common.{◌≡◌, ℕ, zero, suc, ◌+◌, ◌-◌, ◌<◌, ◌≤◌, List, [], ◌∷◌, length, get_or, drop, true, false, Bool, Option, ltb, eqb, refl, sym, ap, subst, ◌∙◌, arith, inl, inr, ℤ, length-drop}
 use Rattle.std.proofs.lemmas.Bool.{lt-ltb, le-ltb, cases_lt}
 use Rattle.std.proofs.lemmas.List.{get_or-drop, drop-drop}
 use Rattle.flk_field.specs.Values.{IsBit}
@@ -20,6 +20,17 @@ field_taken all left rest i f from is =
 
 pub fields_left_then : (all left rest : List (List ℕ)) (i : ℕ) (f : List ℕ) → left ≡ drop i all → left ≡ f ∷ rest → rest ≡ drop (i + 1) all
 fields_left_then all left rest i f from is = ap (drop 1) (sym is ∙ from) ∙ drop-drop 1 i all
+
+pub none_left : (all left : List (List ℕ)) (i : ℕ) → left ≡ drop i all → left ≡ [] → length all ≤ i
+none_left all left i from none =
+    let short : length all - i ≡ 0 = sym (length-drop i all) ∙ ap length (sym from ∙ none) in
+    omega (arith, short)
+
+pub one_left : (all left rest : List (List ℕ)) (i : ℕ) (f : List ℕ) → left ≡ drop i all → left ≡ f ∷ rest → i + 1 ≤ length all
+one_left all left rest i f from is = omega (arith, length-drop i all, ap length (sym from ∙ is))
+
+pub length_left : (n : ℕ) (xs left : List (List ℕ)) → left ≡ drop n xs → length left ≡ length xs - n
+length_left n xs left from = ap length from ∙ length-drop n xs
 
 -- ---- the sets by their place
 

@@ -1,6 +1,6 @@
 //! ASCII records.
 
-ghost use Rattle.std.specs.Prelude.{◌≡◌, ◌+◌, ◌<◌, ◌≤◌, ◌∷◌, [], ℕ, pos, false, length, drop, get_or, slice_index_or, List, MatchResult, OnOk, IfOk, IfErr};
+ghost use Rattle.std.specs.Prelude.{◌≡◌, ◌+◌, ◌<◌, ◌≤◌, ◌∷◌, [], ℕ, pos, false, length, drop, get_or, slice_index_or, List, MatchResult, OnOk, IfOk, IfErr, MatchOption};
 ghost use Rattle.std.specs.List.{list_all, position_or_len};
 ghost use Rattle.flk_text.specs.Lines.{is_byte, without_cr as without_cr_of};
 ghost use Rattle.flk_text.specs.Fields.{fields as fields_of};
@@ -50,37 +50,40 @@ pub fn are_spaces(bytes: &[u8]) -> bool
     true
 }
 
-/// Takes the next field.
-#[inline(always)]
-fn next<'a>(fields: &mut Fields<'a>) -> &'a [u8]
-    requires { 0 < length fields.old }
-    ensures { fields.old ≡ result.now ∷ fields.new }
-{
-    fields.next_field().unwrap()
-}
+/// A line that has too few fields, or too many.
+const FIELDS: Fault = Fault {
+    field: 0,
+    kind: Kind::Fields,
+};
 
-/// Takes the next field, and reads it as a whole number.
+/// Takes the next field, and reads it as a whole number. None exactly where no field is left.
 #[inline(always)]
-fn next_whole(fields: &mut Fields<'_>) -> Result<i64, NumFault>
-    requires { 0 < length fields.old }
-    ensures { (field : List ℕ) × (fields.old ≡ field ∷ fields.new) × IsWholeAnswer field result }
+fn next_whole(fields: &mut Fields<'_>) -> Option<Result<i64, NumFault>>
+    ensures { MatchOption result (fields.old ≡ [])
+        (λ read. (field : List ℕ) × (fields.old ≡ field ∷ fields.new) × IsWholeAnswer field read) }
 {
-    match fields.next_whole() {
-        Some(value) => Ok(value),
-        None => whole(next(fields)),
+    if let Some(value) = fields.next_whole() {
+        return Some(Ok(value));
+    }
+    match fields.next_field() {
+        Some(field) => Some(whole(field)),
+        None => None,
     }
 }
 
-/// Takes the next field, and reads it as a time stamp.
+/// Takes the next field, and reads it as a time stamp. None exactly where no field is left.
 #[inline(always)]
-fn next_stamp(fields: &mut Fields<'_>) -> Result<Option<u64>, Kind>
-    requires { 0 < length fields.old }
-    ensures { (field : List ℕ) × (fields.old ≡ field ∷ fields.new)
-        × MatchResult result (λ s. IsStamp field s) (λ kind. Refuses Stamp field kind) }
+fn next_stamp(fields: &mut Fields<'_>) -> Option<Result<Option<u64>, Kind>>
+    ensures { MatchOption result (fields.old ≡ [])
+        (λ read. (field : List ℕ) × (fields.old ≡ field ∷ fields.new)
+        × MatchResult read (λ s. IsStamp field s) (λ kind. Refuses Stamp field kind)) }
 {
-    match fields.next_whole() {
-        Some(value) => stamp_of(Ok(value)),
-        None => time_stamp(next(fields)),
+    if let Some(value) = fields.next_whole() {
+        return Some(stamp_of(Ok(value)));
+    }
+    match fields.next_field() {
+        Some(field) => Some(time_stamp(field)),
+        None => None,
     }
 }
 
@@ -94,20 +97,24 @@ fn read_analog(
 ) -> Result<(), Fault>
     requires same { length columns.old.items ≡ length channels.now.selected.items }
     requires places { HavePlace row columns.old.items }
-    requires there { length channels.now.selected.items ≤ length fields.old }
     ensures changed { ChangesPlace row (pos 0) columns.old.items columns.new.items }
+    ensures there { OnOk result (length channels.now.selected.items ≤ length fields.old) }
     ensures left { OnOk result (fields.new ≡ drop (length channels.now.selected.items) fields.old) }
     ensures samples { OnOk result ((i : ℕ) → i < length channels.now.selected.items
         → IsSample (get_or fields.old i []) (slice_index_or (row_in row (pos 0) columns.new.items) i (pos 0))) }
     ensures present { OnOk result ((i : ℕ) → i < length channels.now.selected.items
         → IsThere (slice_index_or channels.now.selected.items i false)
         (slice_index_or (row_in row (pos 0) columns.new.items) i (pos 0))) }
-    ensures fault { IfErr result (λ f. (i : ℕ) × (f.field ≡ i + 3)
+    ensures fault { length channels.now.selected.items ≤ length fields.old
+        → IfErr result (λ f. (i : ℕ) × (f.field ≡ i + 3)
         × IsFirstOut (λ j. Analog (slice_index_or channels.now.selected.items j false))
         (length channels.now.selected.items) fields.old i f.kind) }
 {
     for i in 0..channels.selected.len() {
-        match analog_value(next_whole(fields), channels.selected[i]) {
+        let Some(read) = next_whole(fields) else {
+            return Err(FIELDS);
+        };
+        match analog_value(read, channels.selected[i]) {
             Ok(value) => columns[i].put(row, value),
             Err(kind) => {
                 return Err(Fault {
@@ -130,15 +137,20 @@ fn read_digital(
 ) -> Result<(), Fault>
     requires few { (length columns.old.items ≤ 256) × (before ≤ 1000) }
     requires places { HavePlace row columns.old.items }
-    requires there { length columns.old.items ≤ length fields.old }
     ensures changed { ChangesPlace row false columns.old.items columns.new.items }
+    ensures there { OnOk result (length columns.old.items ≤ length fields.old) }
+    ensures left { OnOk result (fields.new ≡ drop (length columns.old.items) fields.old) }
     ensures bits { OnOk result ((i : ℕ) → i < length columns.old.items
         → IsBit (get_or fields.old i []) (slice_index_or (row_in row false columns.new.items) i false)) }
-    ensures fault { IfErr result (λ f. (i : ℕ) × (f.field ≡ before + i + 1)
+    ensures fault { length columns.old.items ≤ length fields.old
+        → IfErr result (λ f. (i : ℕ) × (f.field ≡ before + i + 1)
         × IsFirstOut (λ j. Digital) (length columns.old.items) fields.old i f.kind) }
 {
     for i in 0..columns.len() {
-        match digital_value(next_whole(fields)) {
+        let Some(read) = next_whole(fields) else {
+            return Err(FIELDS);
+        };
+        match digital_value(read) {
             Ok(value) => columns[i].put(row, value),
             Err(kind) => {
                 return Err(Fault {
@@ -154,24 +166,29 @@ fn read_digital(
 /// Reads the sample number, which is the first field, and the time stamp.
 #[inline(always)]
 fn read_head(fields: &mut Fields<'_>, before: Option<u32>) -> Result<Head, Fault>
-    requires there { 2 ≤ length fields.old }
+    ensures there { OnOk result (2 ≤ length fields.old) }
     ensures left { OnOk result (fields.new ≡ drop 2 fields.old) }
     ensures head { IfOk result (λ h. IsNumber (get_or fields.old 0 []) h.number × Follows before h.number
         × IsStamp (get_or fields.old 1 []) h.stamp) }
-    ensures fault { IfErr result
+    ensures fault { 2 ≤ length fields.old → IfErr result
         (λ f. (i : ℕ) × (f.field ≡ i + 1) × IsFirstOut (head_column before) 2 fields.old i f.kind) }
 {
-    let number = match sample_number(next_whole(fields), before) {
+    let Some(read) = next_whole(fields) else {
+        return Err(FIELDS);
+    };
+    let number = match sample_number(read, before) {
         Ok(number) => number,
         Err(kind) => return Err(Fault { field: 1, kind }),
     };
     match next_stamp(fields) {
-        Ok(stamp) => Ok(Head { number, stamp }),
-        Err(kind) => Err(Fault { field: 2, kind }),
+        Some(Ok(stamp)) => Ok(Head { number, stamp }),
+        Some(Err(kind)) => Err(Fault { field: 2, kind }),
+        None => Err(FIELDS),
     }
 }
 
-/// Reads the fields of a line, of which there are as many as a record has.
+/// Reads the fields of a line. The fault is that of the first field that isn't in its set, where there are as many
+/// fields as a record has.
 #[inline(always)]
 fn read_fields(
     channels: &Channels,
@@ -181,13 +198,13 @@ fn read_fields(
     row: usize,
 ) -> Result<Head, Fault>
     requires row { HasRow channels.now row columns.old }
-    requires count { length (fields_of line.now)
-        ≡ field_total (length channels.now.selected.items) channels.now.digital }
     ensures changed { ChangesRow row columns.old columns.new }
     ensures row { IfOk result (λ h.
         IsRow (length channels.now.selected.items) channels.now.digital (fields_of line.now) (headed h row columns.new)
         × Follows before h.number × IsPresent forms.Ascii channels.now.selected.items (headed h row columns.new)) }
-    ensures fault { IfErr result (λ f. (i : ℕ) × (f.field ≡ i + 1)
+    ensures fault { length (fields_of line.now)
+        ≡ field_total (length channels.now.selected.items) channels.now.digital
+        → IfErr result (λ f. (i : ℕ) × (f.field ≡ i + 1)
         × IsFirstOut (column channels.now.selected.items before)
         (field_total (length channels.now.selected.items) channels.now.digital) (fields_of line.now) i f.kind) }
 {
@@ -200,7 +217,10 @@ fn read_fields(
         &mut columns.digital,
         row,
     )?;
-    Ok(head)
+    match fields.next_field() {
+        Some(_) => Err(FIELDS),
+        None => Ok(head),
+    }
 }
 
 /// Reads a line, which may have a CR at its end: the record's front, and its values into a row of the columns.
@@ -228,11 +248,13 @@ pub fn read_line(
             kind: Kind::Length,
         });
     }
+    let fault = match read_fields(channels, before, line, columns, row) {
+        Ok(head) => return Ok(head),
+        Err(fault) => fault,
+    };
+    // A wrong number of fields is told before any of them.
     if field_count(line) != 2 + channels.selected.len() + channels.digital {
-        return Err(Fault {
-            field: 0,
-            kind: Kind::Fields,
-        });
+        return Err(FIELDS);
     }
-    read_fields(channels, before, line, columns, row)
+    Err(fault)
 }
