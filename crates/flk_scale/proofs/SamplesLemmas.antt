@@ -50,3 +50,12 @@ pub level_range : (a b low high x : ℤ) → a ≡ pos 0 → IsBetween low high 
 level_range a b low high x none =
     let e : x *ℤ a +ℤ b ≡ b = rw none (omega (arith, ints)) in
     (λ i. rw e i, λ i. rw e at i)
+
+-- ends that are beside the samples as others are have the same samples between them
+pub cut_range : (first last lo hi x : ℤ) {B : Type 0} → (first ≤ℤ x) ↔ (lo ≤ℤ x) → (x ≤ℤ last) ↔ (x ≤ℤ hi) → IsBetween lo hi x ↔ B → IsBetween first last x ↔ B
+cut_range first last lo hi x f l b = (
+  λ i. b.0 (record { above = f.0 i.above; below = l.0 i.below }),
+  λ h.
+      let i = b.1 h in
+      record { above = f.1 i.above; below = l.1 i.below },
+)

@@ -1,6 +1,6 @@
 //! Which samples a line takes into a range.
 
-ghost use Rattle.std.specs.Prelude.{◌≡◌, ◌↔◌, ◌^◌, ◌<◌, IsTrue, FitsSigned, ℤ, pos, neg_ℤ, ◌<ℤ◌};
+ghost use Rattle.std.specs.Prelude.{◌≡◌, ◌↔◌, ◌^◌, ◌<◌, IsTrue, FitsSigned, ℤ, pos, neg_ℤ, ◌<ℤ◌, ◌≤ℤ◌};
 ghost use Rattle.std.specs.Int.{w32};
 ghost use Rattle.std.specs.Int.RustNames.{unsigned_abs};
 ghost use Rattle.flk_exact.specs.Rounding.{IsBetween};
@@ -11,8 +11,8 @@ use flk_num::{ceil_div, floor_div};
 /// The samples from `first` to `last`; none where `last` is below `first`.
 #[derive(Clone, Copy, Debug)]
 pub struct Samples {
-    first: i128,
-    last: i128,
+    first: i64,
+    last: i64,
 }
 
 /// The samples x of 32 bits for which `a * x + b` is from `low` to `high`.
@@ -50,9 +50,23 @@ fn rising(a: i128, b: i128, low: i128, high: i128) -> Samples
     ensures { AreSamplesBetween a b low high result }
 {
     Samples {
-        first: ceil_div(low - b, a),
-        last: floor_div(high - b, a),
+        first: cut_to_samples(ceil_div(low - b, a)),
+        last: cut_to_samples(floor_div(high - b, a)),
     }
+}
+
+// The number, or where it is far out the one beside the samples of 32 bits: to each of these it is as the number is.
+fn cut_to_samples(n: i128) -> i64
+    ensures above { (x : ℤ) → FitsSigned w32 x → (result ≤ℤ x) ↔ (n ≤ℤ x) }
+    ensures below { (x : ℤ) → FitsSigned w32 x → (x ≤ℤ result) ↔ (x ≤ℤ n) }
+{
+    if n < -2_147_483_649 {
+        return -2_147_483_649;
+    }
+    if n > 2_147_483_648 {
+        return 2_147_483_648;
+    }
+    n as i64
 }
 
 fn is_between(low: i128, high: i128, b: i128) -> bool
@@ -76,10 +90,11 @@ fn level(all: bool) -> Samples
 
 impl Samples {
     /// Whether the sample is among them.
+    #[inline(always)]
     pub fn has(&self, x: i32) -> bool
         ensures { IsTrue result ↔ IsAmong self.now x }
     {
-        let x = i128::from(x);
+        let x = i64::from(x);
         self.first <= x && x <= self.last
     }
 }

@@ -70,6 +70,7 @@ pub struct Scale {
 const TWO_TO_31: i128 = 2_147_483_648;
 
 // How far a sample is above the least one of 32 bits.
+#[inline(always)]
 fn index_of(x: i32) -> u32
     ensures { pos result ≡ x +ℤ pos (2 ^ 31) }
 {
@@ -155,6 +156,7 @@ impl Scale {
     ///
     /// The ends are the recorded voltage less the uncertainty, rounded down, and with it, rounded up, both over
     /// nominal.
+    #[inline(always)]
     pub fn voltage(&self, x: i32) -> Result<Interval, OverRange>
         ensures over { OnErr result (IsOverRange (nominal_of self.now) (voltage_of self.now x)) }
         ensures within { OnOk result (¬ IsOverRange (nominal_of self.now) (voltage_of self.now x)) }
@@ -182,6 +184,7 @@ impl Scale {
     }
 
     /// Whether the voltage that a sample records is negative. Takes no memory.
+    #[inline(always)]
     pub fn negative(&self, x: i32) -> bool
         ensures { result ≡ is_below_zero (voltage_of self.now x) }
     {
@@ -189,6 +192,7 @@ impl Scale {
     }
 
     // The interval of any sample's voltages.
+    #[inline(always)]
     fn interval(&self, x: i32) -> Interval
         ensures { IsVoltageInterval (nominal_of self.now) (uncertainty_of self.now) (voltage_of self.now x) result }
     {

@@ -34,6 +34,7 @@ fn share_of(rest: u128, divisor: u128) -> u64
     ((high / divisor) * 4_294_967_296 + low / divisor) as u64
 }
 
+#[inline(always)]
 fn product(index: u32, quotient: i128) -> i128
     requires { unsigned_abs quotient ≤ 2 ^ 74 }
     ensures value { result ≡ pos index *ℤ quotient }
@@ -43,6 +44,7 @@ fn product(index: u32, quotient: i128) -> i128
 }
 
 // What a product leaves over so many divisors.
+#[inline(always)]
 fn left_over(index: u32, rest: u128, carried: u64, divisor: u128) -> u128
     requires rest { rest < 2 ^ 90 }
     requires within { carried * divisor ≤ index * rest }
@@ -52,6 +54,7 @@ fn left_over(index: u32, rest: u128, carried: u64, divisor: u128) -> u128
 }
 
 // The whole part of `index * share / 2^64`.
+#[inline(always)]
 fn estimate(index: u32, share: u64) -> u64
     ensures { result ≡ index * share / 2 ^ 64 }
 {
@@ -85,6 +88,7 @@ impl Slope {
     }
 
     /// The product of a number with the slope. Its rest is below twice the divisor.
+    #[inline(always)]
     pub fn at(&self, index: u32) -> Parts
         ensures parts { dividend result (divisor_of self.now) ≡ pos index *ℤ step_dividend self.now }
         ensures rest { result.rest < 2 * divisor_of self.now }
