@@ -11,6 +11,7 @@ use Rattle.flk_exact.specs.Rounding.{IsBetween}
 use Rattle.flk_exact.proofs.WholeLemmas.{scale_≤}
 use Rattle.flk_num.specs.declared.interval.Interval.{Interval}
 use Rattle.flk_num.specs.Interval.{HoldEach, lows, highs}
+use Rattle.flk_num.proofs.IntervalLemmas.{ends_ordered}
 use Rattle.flk_stat.specs.Severity.{IsSeverity, IsSeverityOfEnds}
 use Rattle.flk_stat.specs.Ranked.{AreEndsOfLevels}
 use Rattle.flk_stat.proofs.SeverityLemmas.{severity_≤, severity-permutation}
@@ -50,13 +51,9 @@ severity_of_ends_≤ xs ys v w h a b = severity_≤ (map units xs) (map units ys
 
 -- ---- the ends of the same levels, in any order
 
-pub ordered_ends : (vs : List Interval) → AllZip ◌≤ℤ◌ (lows vs) (highs vs)
-ordered_ends [] = tt
-ordered_ends (v ∷ vs) = (v.ordered, ordered_ends vs)
-
 severities_ordered : (low_ends high_ends : List ℤ) (lo hi : ℤ) → AreEndsOfLevels low_ends high_ends → IsSeverityOfEnds low_ends lo → IsSeverityOfEnds high_ends hi → lo ≤ℤ hi
 severities_ordered low_ends high_ends lo hi h a b =
-    severity_of_ends_≤ (lows h.levels) (highs h.levels) lo hi (ordered_ends h.levels)
+    severity_of_ends_≤ (lows h.levels) (highs h.levels) lo hi (ends_ordered h.levels)
     (severity_unsorted (lows h.levels) low_ends lo h.low a) (severity_unsorted (highs h.levels) high_ends hi h.high b)
 
 pub severities_in_order : (low_ends high_ends : List ℤ) (lo hi : ℤ) → ∥ AreEndsOfLevels low_ends high_ends ∥₁ → IsSeverityOfEnds low_ends lo → IsSeverityOfEnds high_ends hi → lo ≤ℤ hi

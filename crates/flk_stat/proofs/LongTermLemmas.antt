@@ -14,14 +14,13 @@ use Rattle.flk_exact.proofs.WholeLemmas.{≤ℤ_trans, natural_is, scale_≤, ca
 use Rattle.flk_exact.proofs.ProductLemmas.{lin, distrib}
 use Rattle.flk_exact.proofs.RoundingLemmas.{ceil_at_most}
 use Rattle.flk_exact.proofs.RootLemmas.{least_reaching}
+use Rattle.flk_num.proofs.RootLemmas.{cube_≤ as natural_cube_≤}
 use Rattle.flk_stat.specs.Severity.{cap}
 use Rattle.flk_stat.specs.LongTerm.{sum_of_cubes, IsLongTerm}
-use Rattle.flk_stat.proofs.SeverityLemmas.{ceil_reached}
+use Rattle.flk_stat.proofs.SeverityLemmas.{ceil_reached, sum_moved}
+use Rattle.flk_stat.proofs.SeverityWidth.{mul_keeps}
 
 -- ---- greater severities
-
-natural_cube_≤ : (a b : ℕ) → a ≤ b → a * a * a ≤ b * b * b
-natural_cube_≤ a b h = mul-le (a * a) a (b * b) b (mul-le a a b b h h) h
 
 cube_≤ : (x y : ℤ) → x ≤ℤ y → (x *ℤ x *ℤ x) ≤ℤ (y *ℤ y *ℤ y)
 cube_≤ (pos a) (pos b) h = let order : a ≤ b = omega (arith, ints) in omega (arith, ints, natural_cube_≤ a b order)
@@ -93,14 +92,11 @@ cube_width w d x y h =
     let b : w * w * (y * y * y) ≤ w * w * ((x + d) * (x + d) * (x + d)) = mul-le-mul_left (w * w) a in
     le_trans b (power_step w d x)
 
-keeps : (n : ℕ) (x y : ℤ) → x ≤ℤ y → (pos n *ℤ x) ≤ℤ (pos n *ℤ y)
-keeps n x y h = let s = scale_≤ x y n h in omega (arith, ints, s)
-
 -- a cube of natural numbers, where y is at most d above x
 cube_near : (w d : ℕ) (x y : ℤ) → pos 0 ≤ℤ x → y ≤ℤ (x +ℤ pos d) → (pos (w * w) *ℤ (y *ℤ y *ℤ y)) ≤ℤ (pos ((w + d) * (w + d)) *ℤ (x *ℤ x *ℤ x +ℤ pos (d * (w * w))))
 cube_near w d (pos a) y low h =
     let top = cube_≤ y (pos (a + d)) (omega (arith, ints, h)) in
-    let up = keeps (w * w) (y *ℤ y *ℤ y) (pos (a + d) *ℤ pos (a + d) *ℤ pos (a + d)) top in
+    let up = mul_keeps (w * w) (y *ℤ y *ℤ y) (pos (a + d) *ℤ pos (a + d) *ℤ pos (a + d)) top in
     let step = power_step w d a in
     omega (arith, ints, up, step)
 cube_near w d (negsuc a) y low h = absurd (omega (arith, ints, low))
@@ -125,7 +121,7 @@ cubes_near w d (x ∷ xs) (y ∷ ys) natural h =
 sum_near : (w d : ℕ) (X Y : ℤ) → 0 < w → (pos (w * w) *ℤ Y) ≤ℤ (pos ((w + d) * (w + d)) *ℤ (X +ℤ pos (12 * (d * (w * w))))) → X ≤ℤ pos (12 * (w * w * w))
     → Y ≤ℤ pos (12 * ((w + d) * (w + d) * (w + d)))
 sum_near w d X Y some near within =
-    let top = keeps ((w + d) * (w + d)) (X +ℤ pos (12 * (d * (w * w)))) (pos (12 * (w * w * w) + 12 * (d * (w * w)))) (omega (arith, ints, within)) in
+    let top = mul_keeps ((w + d) * (w + d)) (X +ℤ pos (12 * (d * (w * w)))) (pos (12 * (w * w * w) + 12 * (d * (w * w)))) (omega (arith, ints, within)) in
     let same : (w + d) * (w + d) * (12 * (w * w * w) + 12 * (d * (w * w))) ≡ w * w * (12 * ((w + d) * (w + d) * (w + d))) = omega arith in
     let all : (pos (w * w) *ℤ Y) ≤ℤ pos (w * w * (12 * ((w + d) * (w + d) * (w + d)))) = rw (← same) (omega (arith, ints, near, top)) in
     cancel_≤ Y (pos (12 * ((w + d) * (w + d) * (w + d)))) (w * w) (mul-pos some some) (omega (arith, ints, all))
@@ -220,9 +216,6 @@ long_term_is values X x w sum ceil root = record {
 -- the mean of cubes of at most the cap
 pub long_term_high : (values : List ℤ) (X w : ℤ) → X ≡ sum_of_cubes values → X ≤ℤ pos 12000000000000000000000000000000000000 → IsLongTerm values w → w ≤ℤ cap
 long_term_high values X w sum high is = is.least cap (omega (arith, ints)) (rw (← sum) (omega (arith, ints, high)))
-
-sum_moved : (a b s : ℤ) → a +ℤ b +ℤ s ≡ a +ℤ (b +ℤ s)
-sum_moved a b s = omega (arith, ints)
 
 pub cubes_folded : (a : ℤ) (xs : List ℤ) → fold (λ s v. s +ℤ v *ℤ v *ℤ v) a xs ≡ a +ℤ sum_of_cubes xs
 cubes_folded a [] = omega (arith, ints)

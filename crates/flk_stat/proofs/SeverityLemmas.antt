@@ -219,7 +219,7 @@ part_of n (negsuc m) light h = absurd (omega (arith, ints, h.low))
 
 -- ---- the sum of the percentiles
 
-sum_moved : (a b s : ℤ) → a +ℤ b +ℤ s ≡ a +ℤ (b +ℤ s)
+pub sum_moved : (a b s : ℤ) → a +ℤ b +ℤ s ≡ a +ℤ (b +ℤ s)
 sum_moved a b s = omega (arith, ints)
 
 abbrev total : List ℤ → (n : ℕ) → List Share → ℤ

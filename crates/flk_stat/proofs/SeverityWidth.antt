@@ -115,7 +115,7 @@ numbers_of xs w s =
 
 -- ---- the law of ranks, summed up
 
-mul_keeps : (n : ℕ) (x y : ℤ) → x ≤ℤ y → (pos n *ℤ x) ≤ℤ (pos n *ℤ y)
+pub mul_keeps : (n : ℕ) (x y : ℤ) → x ≤ℤ y → (pos n *ℤ x) ≤ℤ (pos n *ℤ y)
 mul_keeps n x y h = let s = scale_≤ x y n h in omega (arith, ints, s)
 
 abbrev total_weight : List Share → ℕ

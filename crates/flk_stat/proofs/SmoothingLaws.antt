@@ -1,8 +1,6 @@
 -- Every weighted signal has levels, and no signal has two; and so it is with the level intervals of points.
 use Rattle.std.proofs.Common.{◌≡◌, ℕ, ◌*◌, ◌^◌, ◌<◌, ◌≤◌, List, [], ◌∷◌, ℤ, pos, ◌+ℤ◌, ◌-ℤ◌, ◌*ℤ◌, ◌≤ℤ◌, refl, sym, ap, subst, ◌∙◌, arith}
 use Rattle.std.specs.List.{AllZip}
-use Rattle.std.specs.Int.Signed.{le_z}
-use Rattle.std.proofs.Math.Dec.{T, T_prop}
 use Rattle.std.proofs.Math.Nat.{mul-pos}
 use Rattle.std.proofs.lemmas.Int.{ints}
 use Rattle.flk_exact.specs.Fraction.{Fraction, ◌≈ℚ◌, ◌-ℚ◌, ◌*ℚ◌, whole}
@@ -12,6 +10,7 @@ use Rattle.flk_num.specs.declared.interval.Interval.{Interval}
 use Rattle.flk_num.specs.declared.rate.Rate.{Rate}
 use Rattle.flk_num.specs.declared.rate.Rate.TheVariants.{R2400, R4800}
 use Rattle.flk_num.specs.Rate.{smoothing_number}
+use Rattle.flk_num.proofs.IntervalLemmas.{same_ends}
 use Rattle.flk_num.proofs.SizeLemmas.{sizes_ordered}
 use Rattle.flk_front.specs.declared.point.Point.{Point}
 use Rattle.flk_stat.specs.Smoothing.{scale, IsNextLevel, newest_level, AreLevels}
@@ -114,20 +113,6 @@ AreLevelIntervals-exists c (w ∷ ws) =
     let v : Interval = record { lo = pos ends.lo; hi = pos ends.hi; ordered = omega (arith, ints, level_ordered c (w ∷ ws)) } in
     (v ∷ rest.0, (record { lo = refl; hi = refl }, rest.1))
 
--- an order has one proof
-order_once : (x y : ℤ) (h k : x ≤ℤ y) → h ≡ k
-order_once x y h k = ap (λ (t : T (le_z x y)). (let r : x ≤ℤ y = record { le = t } in r)) (T_prop (le_z x y) h.le k.le)
-
-interval_at : (lo hi : ℤ) (h : lo ≤ℤ hi) (v : Interval) → v.lo ≡ lo → v.hi ≡ hi → v ≡ record { lo = lo; hi = hi; ordered = h }
-interval_at lo hi h v e f =
-    subst (λ (x : ℤ). (o : x ≤ℤ hi) → v ≡ record { lo = x; hi = hi; ordered = o }) e
-    (subst (λ (y : ℤ). (o : v.lo ≤ℤ y) → v ≡ record { lo = v.lo; hi = y; ordered = o }) f
-    (λ o. ap (λ (p : v.lo ≤ℤ v.hi). (let r : Interval = record { lo = v.lo; hi = v.hi; ordered = p } in r)) (order_once v.lo v.hi v.ordered o)))
-    h
-
-interval_same : (u v : Interval) → u.lo ≡ v.lo → u.hi ≡ v.hi → u ≡ v
-interval_same u v h k = interval_at v.lo v.hi v.ordered u h k
-
 pub AreLevelIntervals-unique : (c : ℕ) (ws : List Point) (us vs : List Interval) → AreLevelIntervals c ws us → AreLevelIntervals c ws vs → us ≡ vs
 AreLevelIntervals-unique c [] [] [] h k = refl
 AreLevelIntervals-unique c [] [] (v ∷ vs) h k = absurd k
@@ -136,5 +121,5 @@ AreLevelIntervals-unique c (w ∷ ws) [] vs h k = absurd h
 AreLevelIntervals-unique c (w ∷ ws) (u ∷ us) [] h k = absurd k
 AreLevelIntervals-unique c (w ∷ ws) (u ∷ us) (v ∷ vs) h k =
     let rest = AreLevelIntervals-unique c ws us vs h.1 k.1 in
-    let newest = interval_same u v (h.0.lo ∙ sym k.0.lo) (h.0.hi ∙ sym k.0.hi) in
+    let newest = same_ends u v (h.0.lo ∙ sym k.0.lo) (h.0.hi ∙ sym k.0.hi) in
     cc

@@ -25,7 +25,8 @@ is_marked marks j = slice_index_or marks j false
 abbrev pub kept_of : (bucket : ℕ → ℕ) → List Bool → List ℕ → List ℕ
 kept_of bucket marks levels = filter (λ x. is_marked marks (bucket x)) levels
 
--- The level of a rank is in a marked bucket, from `low` on. `kept` is the rank without the levels above it that are in no marked bucket.
+-- The level of a rank is in a marked bucket, from `low` on. `kept` is the rank without the levels above it that are in
+-- no marked bucket.
 pub record IsKeptRank (bucket : ℕ → ℕ) (levels : List ℕ) (marks : List Bool) (low rank kept : ℕ) : Type 0 where
   pub place : ℕ
   pub from : low ≤ place
@@ -35,7 +36,8 @@ pub record IsKeptRank (bucket : ℕ → ℕ) (levels : List ℕ) (marks : List B
   pub lessened : kept + count_above bucket levels place ≡ rank + count_above bucket (kept_of bucket marks levels) place
 
 -- the percentile by its rank among the levels of marked buckets
-pub record IsKeptShare (bucket : ℕ → ℕ) (levels : List ℕ) (marks : List Bool) (low : ℕ) (q : RankedShare) (s : Share) : Type 0 where
+pub record IsKeptShare (bucket : ℕ → ℕ) (levels : List ℕ) (marks : List Bool) (low : ℕ) (q : RankedShare)
+    (s : Share) : Type 0 where
   pub share : q.share ≡ s
   pub rank : IsKeptRank bucket levels marks low (rank_of s.tenths (length levels)) q.rank
 

@@ -50,7 +50,8 @@ AreWithin n m ss = All (λ s. rank_of s.tenths n ≤ m) ss
 -- the sum of the levels of some ranks, each times its weight, of levels in any order
 abbrev pub IsRankedSum : List RankedShare → List ℤ → ℤ → Type 0
 IsRankedSum [] levels sum = sum ≡ pos 0
-IsRankedSum (q ∷ qs) levels sum = (v : ℤ) × HasRank int_lt q.rank levels v × IsRankedSum qs levels (sum -ℤ pos q.share.weight *ℤ v)
+IsRankedSum (q ∷ qs) levels sum =
+    (v : ℤ) × HasRank int_lt q.rank levels v × IsRankedSum qs levels (sum -ℤ pos q.share.weight *ℤ v)
 
 -- the share's percentile among n levels
 abbrev pub ranked_share : ℕ → Share → RankedShare
@@ -71,7 +72,8 @@ pub record IsRankIn (levels : List ℕ) (q : RankedShare) : Type 0 where
 
 -- each rank is above those before it
 pub record DoRise (qs : List RankedShare) : Type 0 where
-  pub rise : (i j : ℕ) (d : RankedShare) → i < j → j < length qs → (slice_index_or qs i d).rank < (slice_index_or qs j d).rank
+  pub rise : (i j : ℕ) (d : RankedShare) → i < j → j < length qs
+      → (slice_index_or qs i d).rank < (slice_index_or qs j d).rank
 
 -- the level x of the rank was selected: `part` is x times the weight, and `above` are the levels that it stands before
 pub record IsSelected (q : RankedShare) (levels : List ℕ) (part : ℤ) (above : List ℕ) : Type 0 where

@@ -20,6 +20,7 @@ pub struct Ends {
 const SCALE: u128 = 310_700;
 
 // The least and the greatest size of a signal of the point, in units of 2^-48.
+#[inline(always)]
 fn sizes(w: Point) -> (u64, u64)
     requires radius { pos 0 ≤ℤ w.radius }
     requires small { (pos (unsigned_abs w.mid) +ℤ w.radius) <ℤ pos (2 ^ 61) }
@@ -34,6 +35,7 @@ fn sizes(w: Point) -> (u64, u64)
 }
 
 // The square of a size, in units of 2^-96.
+#[inline(always)]
 fn square(size: u64) -> u128
     requires { size < 2 ^ 61 }
     ensures value { result ≡ size * size }
@@ -43,6 +45,7 @@ fn square(size: u64) -> u128
 }
 
 // The scaled square in units of 2^-48, rounded down.
+#[inline(always)]
 fn scaled_down(square: u128) -> u128
     requires { square < 2 ^ 122 }
     ensures { result ≡ square / 2 ^ 16 * scale / 2 ^ 32 }
@@ -51,6 +54,7 @@ fn scaled_down(square: u128) -> u128
 }
 
 // The scaled square in units of 2^-48, rounded up.
+#[inline(always)]
 fn scaled_up(square: u128) -> u128
     requires { square < 2 ^ 122 }
     ensures { result ≡ div_ceil (div_ceil square (2 ^ 16) * scale) (2 ^ 32) }
@@ -59,6 +63,7 @@ fn scaled_up(square: u128) -> u128
 }
 
 /// The scaled squares of a signal of the point, in units of 2^-48, rounded down and up.
+#[inline(always)]
 pub fn scaled_squares(w: Point) -> Ends
     requires radius { pos 0 ≤ℤ w.radius }
     requires small { (pos (unsigned_abs w.mid) +ℤ w.radius) <ℤ pos (2 ^ 61) }
@@ -74,6 +79,7 @@ pub fn scaled_squares(w: Point) -> Ends
 }
 
 // A part of what is between two numbers, in parts of 2^32, rounded down.
+#[inline(always)]
 fn part_between(number: u64, from: i128, to: i128) -> i128
     requires number { number ≤ 2 ^ 32 }
     requires from_low { pos 0 ≤ℤ from }
@@ -87,6 +93,7 @@ fn part_between(number: u64, from: i128, to: i128) -> i128
 }
 
 // An end that moves from the level toward the square by `number` parts in 2^32 of what is between them, rounded down.
+#[inline(always)]
 fn moved_down(number: u64, level: u128, square: u128) -> u128
     requires number { number ≤ 2 ^ 32 }
     requires small { level < 2 ^ 93 }
@@ -98,6 +105,7 @@ fn moved_down(number: u64, level: u128, square: u128) -> u128
 }
 
 // The same, rounded up.
+#[inline(always)]
 fn moved_up(number: u64, level: u128, square: u128) -> u128
     requires number { number ≤ 2 ^ 32 }
     requires small { level < 2 ^ 93 }
@@ -110,6 +118,7 @@ fn moved_up(number: u64, level: u128, square: u128) -> u128
 
 /// The level after a sample with these scaled squares, in units of 2^-48, where the squares count for `number` parts in
 /// 2^32.
+#[inline(always)]
 pub fn level_after(number: u64, level: Ends, square: Ends) -> Ends
     requires number { number ≤ 2 ^ 32 }
     requires ordered { level.lo ≤ level.hi }

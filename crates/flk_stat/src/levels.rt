@@ -35,6 +35,7 @@ fn severities_of(lows: &mut ListOfEnds, highs: &mut ListOfEnds) -> Interval
 }
 
 // Adds the ends of a level. There is room for them.
+#[inline(always)]
 fn add_ends(lows: &mut ListOfEnds, highs: &mut ListOfEnds, p: Interval)
     requires lows_room { length (ends_of lows.old) < capacity_of lows.old }
     requires highs_room { length (ends_of highs.old) < capacity_of highs.old }
@@ -91,6 +92,7 @@ impl Levels {
     }
 
     /// Adds the next level, an interval from 0 to below 2^93 in units of 2^-48. There is room for it. Takes no memory.
+    #[inline(always)]
     pub fn add(&mut self, p: Interval)
         requires room { 0 < room_of self.old }
         requires low { pos 0 ≤ℤ p.lo }

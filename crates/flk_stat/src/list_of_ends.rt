@@ -38,6 +38,7 @@ impl ListOfEnds {
     }
 
     /// Adds an end, for which there is room. Takes no memory.
+    #[inline(always)]
     pub(crate) fn add(&mut self, end: i128)
         requires room { length (ends_of self.old) < capacity_of self.old }
         requires end { IsLevelEnd end }

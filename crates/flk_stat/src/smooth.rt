@@ -18,6 +18,7 @@ use flk_front::Point;
 use flk_num::{Interval, Rate};
 
 // What a sample counts for, over 2^32.
+#[inline(always)]
 fn number_at(rate: Rate) -> u64
     ensures value { result ≡ smoothing_number rate }
     ensures small { result ≤ 2 ^ 32 }
@@ -29,6 +30,7 @@ fn number_at(rate: Rate) -> u64
 }
 
 // The ends as an interval.
+#[inline(always)]
 fn interval_of(ends: Ends) -> Interval
     requires ordered { ends.lo ≤ ends.hi }
     requires small { ends.hi < 2 ^ 93 }
@@ -78,6 +80,7 @@ impl Smooth {
     ///
     /// The interval holds the exact level of every signal that lies in the points taken. Where a bound holds for their
     /// radii, it is no wider than that allows.
+    #[inline(always)]
     pub fn step(&mut self, w: Point) -> Interval
         requires radius { pos 0 ≤ℤ w.radius }
         requires small { (pos (unsigned_abs w.mid) +ℤ w.radius) <ℤ pos (2 ^ 61) }
