@@ -15,8 +15,8 @@ change_same P Q n to from (after j) h = (to j (omega (arith, h.1)) h.0, h.1, λ 
 change_same P Q n to from whole h = λ i b q. h i b (from i b q)
 
 -- what the changes give, and what those give that are over before the first n half-periods are
-abbrev pub All : (ℕ → Type 0) → ℕ → (Change → ℤ → Type 0) → ℤ → Type 0
-All steady n gives x = (c : Change) × IsChange steady n c × gives c x
+abbrev pub Every : (ℕ → Type 0) → ℕ → (Change → ℤ → Type 0) → ℤ → Type 0
+Every steady n gives x = (c : Change) × IsChange steady n c × gives c x
 
 abbrev pub Closed : (ℕ → Type 0) → ℕ → (Change → ℤ → Type 0) → ℤ → Type 0
 Closed steady n gives x = (c : Change) × IsClosed steady n c × gives c x
@@ -107,6 +107,25 @@ last_taken steady n here = record { within = omega arith; here = λ some. here; 
 pub last_none : (steady : ℕ → Type 0) → IsLastTaken steady 0 0
 last_none steady = record { within = omega arith; here = λ some. absurd (omega arith); none = λ i a b. absurd (omega arith) }
 
+-- ---- two sets of windows that agree up to n
+
+pub last_same : (P Q : ℕ → Type 0) (n last : ℕ) → ((i : ℕ) → i ≤ n → P i → Q i) → ((i : ℕ) → i ≤ n → Q i → P i) → IsLastTaken P n last → IsLastTaken Q n last
+last_same P Q n last to from t = record { within = t.within; here = λ some. to last t.within (t.here some); none = λ i a b q. t.none i a b (from i b q) }
+
+closed_change_same : (P Q : ℕ → Type 0) (n : ℕ) → ((i : ℕ) → i ≤ n → P i → Q i) → ((i : ℕ) → i ≤ n → Q i → P i) → (c : Change) → IsClosed P n c → IsClosed Q n c
+closed_change_same P Q n to from (between j k) s = change_same P Q n to from (between j k) s
+closed_change_same P Q n to from (after j) s = s
+closed_change_same P Q n to from whole s = s
+
+pub closed_agree : (P Q : ℕ → Type 0) (n : ℕ) (gives : Change → ℤ → Type 0) (m : ℤ) → ((i : ℕ) → i ≤ n → P i → Q i) → ((i : ℕ) → i ≤ n → Q i → P i)
+    → IsGreatestOrZero (Closed P n gives) m → IsGreatestOrZero (Closed Q n gives) m
+closed_agree P Q n gives m to from g =
+    greatest_same (Closed P n gives) (Closed Q n gives) m (λ x (c, s, e). (c, closed_change_same P Q n to from c s, e)) (λ x (c, s, e). (c, closed_change_same Q P n from to c s, e)) g
+
+-- the last of n + 1 windows, where it is among the first n
+pub last_before : (steady : ℕ → Type 0) (n last : ℕ) → last ≤ n → IsLastTaken steady (n + 1) last → IsLastTaken steady n last
+last_before steady n last low t = record { within = low; here = t.here; none = λ i a b. t.none i a (omega (arith, b)) }
+
 -- ---- at the end: the open change beside those that are over
 
 closed_is_change : (steady : ℕ → Type 0) (n : ℕ) (c : Change) → IsClosed steady n c → IsChange steady n c
@@ -139,9 +158,9 @@ is_closed_or_open steady n (suc l) whole start t s = absurd (s (suc l) t.within 
 
 -- with an open change, which gives r
 with_open : (steady : ℕ → Type 0) (n last : ℕ) (gives : Change → ℤ → Type 0) (m r : ℤ) → ¬ steady 0 → IsLastTaken steady n last → (0 < last → last < n)
-    → IsGreatestOrZero (gives (open_change last)) r → IsGreatestOrZero (Closed steady n gives) m → IsGreatestOrZero (All steady n gives) (int_max m r)
+    → IsGreatestOrZero (gives (open_change last)) r → IsGreatestOrZero (Closed steady n gives) m → IsGreatestOrZero (Every steady n gives) (int_max m r)
 with_open steady n last gives m r start t less last_one closed =
-    greatest_join (Closed steady n gives) (gives (open_change last)) (All steady n gives) m r
+    greatest_join (Closed steady n gives) (gives (open_change last)) (Every steady n gives) m r
     (λ x (c, s, e). (c, closed_is_change steady n c s, e))
     (λ x e. (open_change last, open_is_change steady n last start t less, e))
     (λ x (c, s, e). elim (is_closed_or_open steady n last c start t s) [ inl here ↦ inl (c, here, e) | inr there ↦ inr (subst (λ (d : Change). gives d x) there.0 e) ])
@@ -149,9 +168,9 @@ with_open steady n last gives m r start t less last_one closed =
 
 -- with none, where the last half-period ends a steady window
 without_open : (steady : ℕ → Type 0) (n last : ℕ) (gives : Change → ℤ → Type 0) (m : ℤ) → ¬ steady 0 → IsLastTaken steady n last → 0 < last → n ≤ last
-    → IsGreatestOrZero (Closed steady n gives) m → IsGreatestOrZero (All steady n gives) m
+    → IsGreatestOrZero (Closed steady n gives) m → IsGreatestOrZero (Every steady n gives) m
 without_open steady n last gives m start t some most closed =
-    greatest_same (Closed steady n gives) (All steady n gives) m
+    greatest_same (Closed steady n gives) (Every steady n gives) m
     (λ x (c, s, e). (c, closed_is_change steady n c s, e))
     (λ x (c, s, e). elim (is_closed_or_open steady n last c start t s) [ inl here ↦ (c, here, e) | inr there ↦ absurd (omega (arith, there.1 some)) ])
     closed
@@ -159,13 +178,13 @@ without_open steady n last gives m start t some most closed =
 -- The open change gives r, which is 0 where the last half-period ends a steady window.
 pub greatest_of_all : (steady : ℕ → Type 0) (n last : ℕ) (gives : Change → ℤ → Type 0) (m r : ℤ) → ¬ steady 0 → IsLastTaken steady n last
     → IsGreatestOrZero (gives (open_change last)) r → (0 < last → n ≤ last → r ≡ pos 0)
-    → IsGreatestOrZero (Closed steady n gives) m → IsGreatestOrZero (All steady n gives) (int_max m r)
+    → IsGreatestOrZero (Closed steady n gives) m → IsGreatestOrZero (Every steady n gives) (int_max m r)
 greatest_of_all steady n last gives m r start t last_one none closed = elim (cases_lt last n) [
   | inl less ↦ with_open steady n last gives m r start t (λ some. less) last_one closed
   | inr most ↦ (elim (cases_lt 0 last) [
     | inl some ↦ (
         let e : m ≡ int_max m r = omega (arith, ints, clamps, closed.natural, none some most) in
-        subst (IsGreatestOrZero (All steady n gives)) e (without_open steady n last gives m start t some most closed))
+        subst (IsGreatestOrZero (Every steady n gives)) e (without_open steady n last gives m start t some most closed))
     | inr never ↦ with_open steady n last gives m r start t (λ some. absurd (omega arith)) last_one closed
   ])
 ]

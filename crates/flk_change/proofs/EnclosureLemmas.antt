@@ -45,7 +45,7 @@ end_at : (halves : List Interval) (i : ℕ) → i < length halves → get_or (lo
 end_at halves i low =
     AllZip-get_or (λ x y. x ≤ℤ y) (lows halves) (highs halves) i (pos 0) (pos 0) (ends_ordered halves) (omega (arith, low, length-map halves (λ (u : Interval). u.lo)))
 
-cases_taken : (resolution : List Bool) (i : ℕ) → IsTaken resolution i ⊎ ¬ IsTaken resolution i
+pub cases_taken : (resolution : List Bool) (i : ℕ) → IsTaken resolution i ⊎ ¬ IsTaken resolution i
 cases_taken resolution i = ⊎_elim (λ t. inl t) (λ f. inr (λ t. false≢true (sym f ∙ t))) (cases_Bool (get_or (false ∷ resolution) i false))
 
 pub least_have : (q : Quantity) (window : ℕ) (halves : List Interval) (resolution : List Bool) → 0 < window → (m : ℤ) × IsQuantity q window (length halves) (IsTaken resolution) (least_readings window halves) m

@@ -5,9 +5,9 @@ pub mod LevelLemmas
 pub mod SumLemmas
 pub mod PartLemmas
 pub mod GivesLemmas
+pub mod FirstLemmas
+pub mod ResolutionLemmas
 pub mod PassLemmas
-pub mod ChoiceLemmas
-pub mod HullLemmas
 pub mod CandidateLemmas
 pub mod StandsLemmas
 pub mod ExtremeLemmas
@@ -18,5 +18,7 @@ pub mod SteadyLemmas
 pub mod ValueLemmas
 pub mod QuantityLemmas
 pub mod EnclosureLemmas
+pub mod PassesLemmas
+pub mod HullLemmas
 pub mod WidthLemmas
 pub mod SummaryLemmas

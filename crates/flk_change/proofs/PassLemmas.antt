@@ -1,32 +1,27 @@
--- One pass over the half-periods of a resolution: what it has found after each, and at the end.
-use Rattle.std.proofs.Common.{◌≡◌, inl, inr, ℕ, zero, suc, ◌+◌, ◌-◌, ◌<◌, ◌≤◌, Bool, true, false, List, length, get_or, ℤ, pos, ◌≤ℤ◌, refl, sym, ap, ◌∙◌, subst, arith, add-one}
+-- One pass over the half-periods for all resolutions with the same last steady window: what it has found after each, and at the end.
+use Rattle.std.proofs.Common.{◌≡◌, inl, inr, ℕ, zero, suc, ◌+◌, ◌-◌, ◌<◌, ◌≤◌, Bool, true, false, List, length, set, ℤ, pos, ◌≤ℤ◌, refl, sym, ap, ◌∙◌, subst, arith}
 use Rattle.std.specs.Int.{int_max}
 use Rattle.std.proofs.lemmas.Int.{ints, clamps}
 use Rattle.std.proofs.lemmas.Bool.{false≢true}
+use Rattle.flk_exact.proofs.ListLemmas.{AllZip-length}
 use Rattle.flk_num.specs.declared.interval.Interval.{Interval}
+use Rattle.flk_change.specs.declared.flag.Flag.{Flag}
 use Rattle.flk_change.specs.declared.swings.Swings.{Swings}
-use Rattle.flk_change.specs.declared.pass.Outcome.{Outcome}
+use Rattle.flk_change.specs.declared.outcome.Outcome.{Outcome}
 use Rattle.flk_change.specs.declared.pass.Pass.{Pass}
 use Rattle.flk_num.specs.Interval.{lows, highs}
-use Rattle.flk_num.specs.Values.{IsHalfPeriodRange}
-use Rattle.flk_change.specs.Changes.{Change, between, first, stop, level, before, IsAmong, excesses, IsGreatestOrZero, Quantity, Dc, Dmax, Tmax, Gives, IsQuantity}
-use Rattle.flk_change.specs.Resolutions.{IsTaken, least_distance, greatest_distance, least_readings, greatest_readings}
-use Rattle.flk_change.specs.Pass.{least_swing, greatest_swing, AreSwings, IsClosed, IsClosedQuantity, ClosedRunsFrom, IsClosedOutcome, IsLastTaken, open_change, HasPassed, IsOutcome}
+use Rattle.flk_change.specs.Changes.{Change, between, first, stop, level, before, Readings, IsAmong, excesses, IsGreatestOrZero, Quantity, Dc, Dmax, Tmax, Gives}
+use Rattle.flk_change.specs.Resolutions.{Resolves, AreResolved, IsTaken, least_distance, greatest_distance, least_readings, greatest_readings}
+use Rattle.flk_change.specs.Pass.{least_swing, greatest_swing, AreSwings, IsLastTaken, open_change, IsFirst, at_most, at_least, interval_in, AreHulls, closed_number, all_number, HasLast, HasNext, MayResolve, HasPassed}
 use Rattle.flk_change.proofs.GreatestLemmas.{greatest_same, greatest_none}
 use Rattle.flk_change.proofs.GivesLemmas.{gives_dc, gives_dmax, gives_t, gives_dc_open, gives_dmax_open}
-use Rattle.flk_change.proofs.ChangeLemmas.{none_closed, closed_untaken, closed_near, closed_new, last_untaken, last_taken, last_none, greatest_of_all}
+use Rattle.flk_change.proofs.ChangeLemmas.{Closed, Every, none_closed, closed_untaken, closed_near, closed_new, closed_agree, last_untaken, last_none, last_same, last_before, greatest_of_all}
 use Rattle.flk_change.proofs.SwingLemmas.{least_natural, greatest_natural, excesses_≤, excesses_none}
+use Rattle.flk_change.proofs.FirstLemmas.{IsOrder, upwards, downwards, first_step}
+use Rattle.flk_change.proofs.ResolutionLemmas.{resolution_exists, changed, new_choice, old_choices}
 
--- ---- the windows of a resolution
-
-pub start_untaken : (resolution : List Bool) → ¬ IsTaken resolution 0
+start_untaken : (resolution : List Bool) → ¬ IsTaken resolution 0
 start_untaken resolution h = false≢true h
-
-pub taken_at : (resolution : List Bool) (i : ℕ) → get_or resolution i false ≡ true → IsTaken resolution (i + 1)
-taken_at resolution i h = rw add-one h
-
-pub untaken_at : (resolution : List Bool) (i : ℕ) → get_or resolution i false ≡ false → ¬ IsTaken resolution (i + 1)
-untaken_at resolution i h t = let k : get_or resolution i false ≡ true = (rw add-one at t) in false≢true (sym h ∙ k)
 
 -- ---- what one change gives
 
@@ -65,43 +60,112 @@ part_is window halves l c s e f h =
       over_high = h.possible ∙ ap pos (excesses_by (greatest_swing halves l) ((greatest_readings window halves).swing c) a b (λ i. greatest_swing_is window halves l c i e f));
     }
 
--- ---- the changes that are over
+-- ---- the numbers of resolutions with the same last steady window
 
-pub closed_start : (window : ℕ) (halves : List Interval) (resolution : List Bool) (q : Quantity) → ClosedRunsFrom q window halves resolution 0 (pos 0) (pos 0)
-closed_start window halves resolution q = record {
-  low = greatest_none (λ x. (c : Change) × IsClosed (IsTaken resolution) 0 c × Gives q window (length halves) (least_readings window halves) c x) (λ x (c, s, e). none_closed (IsTaken resolution) c s);
-  high = greatest_none (λ x. (c : Change) × IsClosed (IsTaken resolution) 0 c × Gives q window (length halves) (greatest_readings window halves) c x) (λ x (c, s, e). none_closed (IsTaken resolution) c s);
+start_closed : (flags : List Flag) (gives : Change → ℤ → Type 0) (order : ℤ → ℤ → Type 0) → order (pos 0) (pos 0) → IsFirst order (HasLast flags 0 0) (λ b. IsGreatestOrZero (Closed (IsTaken b) 0 gives)) (pos 0)
+start_closed flags gives order same =
+    let none : (b : List Bool) → IsGreatestOrZero (Closed (IsTaken b) 0 gives) (pos 0) = λ b. greatest_none (Closed (IsTaken b) 0 gives) (λ x (c, s, e). none_closed (IsTaken b) c s) in
+    let some = resolution_exists flags in
+    record { reached = (some.0, (some.1, last_none (IsTaken some.0)), none some.0); bounds = λ b is. (pos 0, none b, same) }
+
+-- what another choice at the window behind n leaves as it was
+record LeavesFirst (b c : List Bool) (n : ℕ) : Type 0 where
+  to : (i : ℕ) → i ≤ n → IsTaken b i → IsTaken c i
+  from : (i : ℕ) → i ≤ n → IsTaken c i → IsTaken b i
+
+changed_behind : (b : List Bool) (n : ℕ) (steady : Bool) → LeavesFirst b (set b n steady) n
+changed_behind b n steady = record { to = λ i low t. old_choices b n i steady low ∙ t; from = λ i low t. sym (old_choices b n i steady low) ∙ t }
+
+long_enough : (flags : List Flag) (b : List Bool) (n : ℕ) → n < length flags → AreResolved flags b → n < length b
+long_enough flags b n there is = omega (arith, there, AllZip-length Resolves flags b is)
+
+taken_now : (flags : List Flag) (b : List Bool) (n : ℕ) → n < length flags → AreResolved flags b → IsTaken (set b n true) (n + 1)
+taken_now flags b n there is = new_choice b n true (long_enough flags b n there is)
+
+untaken_now : (flags : List Flag) (b : List Bool) (n : ℕ) → n < length flags → AreResolved flags b → ¬ IsTaken (set b n false) (n + 1)
+untaken_now flags b n there is t = false≢true (sym (new_choice b n false (long_enough flags b n there is)) ∙ t)
+
+-- the window behind n is not taken
+first_untaken : (order : ℤ → ℤ → Type 0) (flags : List Flag) (n last : ℕ) (gives : Change → ℤ → Type 0) (v : ℤ) → last ≤ n → MayResolve flags n false
+    → IsFirst order (HasLast flags n last) (λ b. IsGreatestOrZero (Closed (IsTaken b) n gives)) v → IsFirst order (HasLast flags (n + 1) last) (λ b. IsGreatestOrZero (Closed (IsTaken b) (n + 1) gives)) v
+first_untaken order flags n last gives v low may h =
+    first_step order (HasLast flags n last) (HasLast flags (n + 1) last) (λ b. IsGreatestOrZero (Closed (IsTaken b) n gives)) (λ b. IsGreatestOrZero (Closed (IsTaken b) (n + 1) gives)) (λ m. m) v
+    (λ x y a. a)
+    (λ b (is, t). ((is, last_before (IsTaken b) n last low t), λ m g. closed_untaken (IsTaken b) n gives m (t.none (n + 1) (omega (arith, low)) (omega arith)) g))
+    (λ b m (is, t) g.
+    let c = set b n false in
+    let same = changed_behind b n false in
+    let never = untaken_now flags b n may.0 is in (
+      c,
+      (changed flags b n false may is, last_untaken (IsTaken c) n last never (last_same (IsTaken b) (IsTaken c) n last same.to same.from t)),
+      closed_untaken (IsTaken c) n gives m never (closed_agree (IsTaken b) (IsTaken c) n gives m same.to same.from g),
+    ))
+    h
+
+-- it is taken, and what it does to the number of one resolution is known
+first_taken : (order : ℤ → ℤ → Type 0) (flags : List Flag) (n last : ℕ) (gives : Change → ℤ → Type 0) (f : ℤ → ℤ) (v : ℤ) → ((x y : ℤ) → order x y → order (f x) (f y)) → MayResolve flags n true
+    → ((b : List Bool) (m : ℤ) → IsLastTaken (IsTaken b) n last → IsTaken b (n + 1) → IsGreatestOrZero (Closed (IsTaken b) n gives) m → IsGreatestOrZero (Closed (IsTaken b) (n + 1) gives) (f m))
+    → IsFirst order (HasLast flags n last) (λ b. IsGreatestOrZero (Closed (IsTaken b) n gives)) v → IsFirst order (HasNext flags n last) (λ b. IsGreatestOrZero (Closed (IsTaken b) (n + 1) gives)) (f v)
+first_taken order flags n last gives f v kept may step h =
+    first_step order (HasLast flags n last) (HasNext flags n last) (λ b. IsGreatestOrZero (Closed (IsTaken b) n gives)) (λ b. IsGreatestOrZero (Closed (IsTaken b) (n + 1) gives)) f v
+    kept
+    (λ b ((is, t), taken). ((is, t), λ m g. step b m t taken g))
+    (λ b m (is, t) g.
+    let c = set b n true in
+    let same = changed_behind b n true in
+    let taken = taken_now flags b n may.0 is in
+    let last_one = last_same (IsTaken b) (IsTaken c) n last same.to same.from t in
+    (c, ((changed flags b n true may is, last_one), taken), step c m last_one taken (closed_agree (IsTaken b) (IsTaken c) n gives m same.to same.from g)))
+    h
+
+-- at the end, where the open change gives r
+first_ended : (order : ℤ → ℤ → Type 0) → IsOrder order → (flags : List Flag) (n last : ℕ) (gives : Change → ℤ → Type 0) (v r : ℤ) → IsGreatestOrZero (gives (open_change last)) r → (0 < last → n ≤ last → r ≡ pos 0)
+    → IsFirst order (HasLast flags n last) (λ b. IsGreatestOrZero (Closed (IsTaken b) n gives)) v → IsFirst order (HasLast flags n last) (λ b. IsGreatestOrZero (Every (IsTaken b) n gives)) (int_max v r)
+first_ended order is flags n last gives v r last_one none h =
+    let end : (b : List Bool) (m : ℤ) → IsLastTaken (IsTaken b) n last → IsGreatestOrZero (Closed (IsTaken b) n gives) m → IsGreatestOrZero (Every (IsTaken b) n gives) (int_max m r) =
+    λ b m t g. greatest_of_all (IsTaken b) n last gives m r (start_untaken b) t last_one none g in
+    first_step order (HasLast flags n last) (HasLast flags n last) (λ b. IsGreatestOrZero (Closed (IsTaken b) n gives)) (λ b. IsGreatestOrZero (Every (IsTaken b) n gives)) (λ m. int_max m r) v
+    (λ x y a. is.kept x y r a)
+    (λ b (rs, t). ((rs, t), λ m g. end b m t g))
+    (λ b m (rs, t) g. (b, (rs, t), end b m t g))
+    h
+
+-- ---- the three quantities
+
+pub hulls_start : (window : ℕ) (halves : List Interval) (flags : List Flag) (o : Outcome) → ((q : Quantity) → ((interval_in q o).lo ≡ pos 0) × ((interval_in q o).hi ≡ pos 0))
+    → AreHulls window halves (HasLast flags 0 0) (closed_number window (length halves) 0) o
+hulls_start window halves flags o zero_ends = record {
+  low = λ q. subst (IsFirst at_most (HasLast flags 0 0) (closed_number window (length halves) 0 q (least_readings window halves))) (sym (zero_ends q).0)
+      (start_closed flags (Gives q window (length halves) (least_readings window halves)) at_most (omega (arith, ints)));
+  high = λ q. subst (IsFirst at_least (HasLast flags 0 0) (closed_number window (length halves) 0 q (greatest_readings window halves))) (sym (zero_ends q).1)
+      (start_closed flags (Gives q window (length halves) (greatest_readings window halves)) at_least (omega (arith, ints)));
 }
 
-pub outcome_untaken : (window : ℕ) (halves : List Interval) (resolution : List Bool) (n : ℕ) (o : Outcome) → ¬ IsTaken resolution (n + 1) → IsClosedOutcome window halves resolution n o → IsClosedOutcome window halves resolution (n + 1) o
-outcome_untaken window halves resolution n o never h =
-    let st = IsTaken resolution in
-    let l = least_readings window halves in
-    let g = greatest_readings window halves in
-    let len = length halves in
+pub hulls_untaken : (window : ℕ) (halves : List Interval) (flags : List Flag) (n last : ℕ) (o : Outcome) → last ≤ n → MayResolve flags n false
+    → AreHulls window halves (HasLast flags n last) (closed_number window (length halves) n) o → AreHulls window halves (HasLast flags (n + 1) last) (closed_number window (length halves) (n + 1)) o
+hulls_untaken window halves flags n last o low may h = record {
+  low = λ q. first_untaken at_most flags n last (Gives q window (length halves) (least_readings window halves)) (interval_in q o).lo low may (h.low q);
+  high = λ q. first_untaken at_least flags n last (Gives q window (length halves) (greatest_readings window halves)) (interval_in q o).hi low may (h.high q);
+}
+
+-- the window before is the last one, or there is none
+pub hulls_near : (window : ℕ) (halves : List Interval) (flags : List Flag) (n last : ℕ) (o : Outcome) → (0 < last → n ≤ last) → MayResolve flags n true
+    → AreHulls window halves (HasLast flags n last) (closed_number window (length halves) n) o → AreHulls window halves (HasNext flags n last) (closed_number window (length halves) (n + 1)) o
+hulls_near window halves flags n last o near may h =
+    let step : (gives : Change → ℤ → Type 0) (b : List Bool) (m : ℤ) → IsLastTaken (IsTaken b) n last → IsTaken b (n + 1) → IsGreatestOrZero (Closed (IsTaken b) n gives) m → IsGreatestOrZero (Closed (IsTaken b) (n + 1) gives) m =
+    λ gives b m t taken g. closed_near (IsTaken b) n last gives m (start_untaken b) t near g in
     record {
-      dc = record { low = closed_untaken st n (Gives Dc window len l) o.dc.lo never h.dc.low; high = closed_untaken st n (Gives Dc window len g) o.dc.hi never h.dc.high };
-      dmax = record { low = closed_untaken st n (Gives Dmax window len l) o.dmax.lo never h.dmax.low; high = closed_untaken st n (Gives Dmax window len g) o.dmax.hi never h.dmax.high };
-      t = record { low = closed_untaken st n (Gives Tmax window len l) o.t.lo never h.t.low; high = closed_untaken st n (Gives Tmax window len g) o.t.hi never h.t.high };
+      low = λ q. let gives = Gives q window (length halves) (least_readings window halves) in
+          first_taken at_most flags n last gives (λ m. m) (interval_in q o).lo (λ x y a. a) may (step gives) (h.low q);
+      high = λ q. let gives = Gives q window (length halves) (greatest_readings window halves) in
+          first_taken at_least flags n last gives (λ m. m) (interval_in q o).hi (λ x y a. a) may (step gives) (h.high q);
     }
 
-pub outcome_near : (window : ℕ) (halves : List Interval) (resolution : List Bool) (n last : ℕ) (o : Outcome) → IsLastTaken (IsTaken resolution) n last → (0 < last → n ≤ last)
-    → IsClosedOutcome window halves resolution n o → IsClosedOutcome window halves resolution (n + 1) o
-outcome_near window halves resolution n last o t near h =
-    let st = IsTaken resolution in
-    let z = start_untaken resolution in
-    let l = least_readings window halves in
-    let g = greatest_readings window halves in
-    let len = length halves in
-    record {
-      dc = record { low = closed_near st n last (Gives Dc window len l) o.dc.lo z t near h.dc.low; high = closed_near st n last (Gives Dc window len g) o.dc.hi z t near h.dc.high };
-      dmax = record { low = closed_near st n last (Gives Dmax window len l) o.dmax.lo z t near h.dmax.low; high = closed_near st n last (Gives Dmax window len g) o.dmax.hi z t near h.dmax.high };
-      t = record { low = closed_near st n last (Gives Tmax window len l) o.t.lo z t near h.t.low; high = closed_near st n last (Gives Tmax window len g) o.t.hi z t near h.t.high };
-    }
-
--- two greater of three
-shifted : (P : ℤ → Type 0) (m s f r : ℤ) → r ≡ int_max (int_max m s) f → P (int_max m (int_max s f)) → P r
-shifted P m s f r e h = let k : int_max m (int_max s f) ≡ r = omega (arith, ints, clamps, e) in subst P k h
+-- what a change gives to each quantity: by its step, the greatest swing of its half-periods, and how many are above
+abbrev given : Quantity → (step furthest over : ℤ) → ℤ
+given Dc step furthest over = step
+given Dmax step furthest over = int_max step furthest
+given Tmax step furthest over = over
 
 -- what the code does to the ends with one change more
 pub record IsMore (o : Outcome) (step : Interval) (s : Swings) (r : Outcome) : Type 0 where
@@ -112,93 +176,67 @@ pub record IsMore (o : Outcome) (step : Interval) (s : Swings) (r : Outcome) : T
   pub t_low : r.t.lo ≡ int_max o.t.lo s.over.lo
   pub t_high : r.t.hi ≡ int_max o.t.hi s.over.hi
 
+more_low : (o : Outcome) (step : Interval) (s : Swings) (r : Outcome) (q : Quantity) → IsMore o step s r → int_max (interval_in q o).lo (given q step.lo s.furthest.lo s.over.lo) ≡ (interval_in q r).lo
+more_low o step s r Dc h = sym h.dc_low
+more_low o step s r Dmax h = omega (arith, ints, clamps, h.dmax_low)
+more_low o step s r Tmax h = sym h.t_low
+
+more_high : (o : Outcome) (step : Interval) (s : Swings) (r : Outcome) (q : Quantity) → IsMore o step s r → int_max (interval_in q o).hi (given q step.hi s.furthest.hi s.over.hi) ≡ (interval_in q r).hi
+more_high o step s r Dc h = sym h.dc_high
+more_high o step s r Dmax h = omega (arith, ints, clamps, h.dmax_high)
+more_high o step s r Tmax h = sym h.t_high
+
+-- the greatest number that a change between two windows gives
+gives_between : (q : Quantity) (window count : ℕ) (r : Readings) (j k : ℕ) (furthest over : ℤ) → pos 0 ≤ℤ r.step j k → IsGreatestOrZero (IsAmong (r.swing (between j k)) j (k - window)) furthest
+    → over ≡ pos (excesses (r.swing (between j k)) j (k - window)) → IsGreatestOrZero (Gives q window count r (between j k)) (given q (r.step j k) furthest over)
+gives_between Dc window count r j k furthest over natural most is = gives_dc window count r j k natural
+gives_between Dmax window count r j k furthest over natural most is = gives_dmax window count r j k furthest natural most
+gives_between Tmax window count r j k furthest over natural most is = subst (IsGreatestOrZero (Gives Tmax window count r (between j k))) (sym is) (gives_t window count r (between j k))
+
 before_open : (window : ℕ) (xs : List ℤ) (last k : ℕ) → 0 < last → before window xs (open_change last) ≡ before window xs (between last k)
 before_open window xs zero k some = absurd (omega arith)
 before_open window xs (suc j) k some = refl
 
 -- the change between the last steady window and one that ends after n + 1 half-periods
-pub outcome_far : (window : ℕ) (halves : List Interval) (resolution : List Bool) (n : ℕ) (p : Pass) (now step : Interval) (s : Swings) (r : Outcome)
-    → HasPassed window halves resolution n p → 0 < p.last → p.last < n → IsTaken resolution (n + 1)
+pub hulls_far : (window : ℕ) (halves : List Interval) (flags : List Flag) (n : ℕ) (p : Pass) (now step : Interval) (s : Swings) (r : Outcome) → MayResolve flags n true
+    → HasPassed window halves flags n p → 0 < p.last → p.last < n
     → now.lo ≡ level window (lows halves) (n + 1) → now.hi ≡ level window (highs halves) (n + 1)
     → step.lo ≡ least_distance now.lo now.hi p.before.lo p.before.hi → step.hi ≡ greatest_distance now.lo now.hi p.before.lo p.before.hi
-    → AreSwings halves p.before p.last (n + 1 - window) s → IsMore p.outcome step s r → IsClosedOutcome window halves resolution (n + 1) r
-outcome_far window halves resolution n p now step s r h some less taken low high step_low step_high swings more =
-    let st = IsTaken resolution in
+    → AreSwings halves p.before p.last (n + 1 - window) s → IsMore p.outcome step s r → AreHulls window halves (HasNext flags n p.last) (closed_number window (length halves) (n + 1)) r
+hulls_far window halves flags n p now step s r may h some less low high step_low step_high swings more =
     let l = least_readings window halves in
     let g = greatest_readings window halves in
     let len = length halves in
-    let c = between p.last (n + 1) in
-    let e = h.before_low ∙ before_open window (lows halves) p.last (n + 1) some in
-    let f = h.before_high ∙ before_open window (highs halves) p.last (n + 1) some in
+    let last = p.last in
+    let c = between last (n + 1) in
+    let e = h.before_low ∙ before_open window (lows halves) last (n + 1) some in
+    let f = h.before_high ∙ before_open window (highs halves) last (n + 1) some in
     let part = part_is window halves p.before c s e f swings in
-    let sl : l.step p.last (n + 1) ≡ step.lo = rw (step_low, low, high, e, f) refl in
-    let sg : g.step p.last (n + 1) ≡ step.hi = rw (step_high, low, high, e, f) refl in
+    let sl : l.step last (n + 1) ≡ step.lo = rw (step_low, low, high, e, f) refl in
+    let sg : g.step last (n + 1) ≡ step.hi = rw (step_high, low, high, e, f) refl in
     let natural_low = subst (λ (z : ℤ). pos 0 ≤ℤ z) (sym step_low ∙ sym sl) (least_natural now.lo now.hi p.before.lo p.before.hi) in
     let natural_high = subst (λ (z : ℤ). pos 0 ≤ℤ z) (sym step_high ∙ sym sg) (greatest_natural now.lo now.hi p.before.lo p.before.hi now.ordered p.before.ordered) in
     let o = p.outcome in
     record {
-      dc = record {
-        low = subst (IsClosedQuantity Dc window len (n + 1) st l) (ap (int_max o.dc.lo) sl ∙ sym more.dc_low) (closed_new st n p.last (Gives Dc window len l) o.dc.lo (l.step p.last (n + 1)) h.last some less taken (gives_dc window len l p.last (n + 1) natural_low) h.outcome.dc.low);
-        high = subst (IsClosedQuantity Dc window len (n + 1) st g) (ap (int_max o.dc.hi) sg ∙ sym more.dc_high) (closed_new st n p.last (Gives Dc window len g) o.dc.hi (g.step p.last (n + 1)) h.last some less taken (gives_dc window len g p.last (n + 1) natural_high) h.outcome.dc.high);
-      };
-      dmax = record {
-        low = shifted (IsClosedQuantity Dmax window len (n + 1) st l) o.dmax.lo (l.step p.last (n + 1)) s.furthest.lo r.dmax.lo (more.dmax_low ∙ ap (λ (z : ℤ). int_max (int_max o.dmax.lo z) s.furthest.lo) (sym sl))
-            (closed_new st n p.last (Gives Dmax window len l) o.dmax.lo (int_max (l.step p.last (n + 1)) s.furthest.lo) h.last some less taken (gives_dmax window len l p.last (n + 1) s.furthest.lo natural_low part.furthest_low) h.outcome.dmax.low);
-        high = shifted (IsClosedQuantity Dmax window len (n + 1) st g) o.dmax.hi (g.step p.last (n + 1)) s.furthest.hi r.dmax.hi (more.dmax_high ∙ ap (λ (z : ℤ). int_max (int_max o.dmax.hi z) s.furthest.hi) (sym sg))
-            (closed_new st n p.last (Gives Dmax window len g) o.dmax.hi (int_max (g.step p.last (n + 1)) s.furthest.hi) h.last some less taken (gives_dmax window len g p.last (n + 1) s.furthest.hi natural_high part.furthest_high) h.outcome.dmax.high);
-      };
-      t = record {
-        low = subst (IsClosedQuantity Tmax window len (n + 1) st l) (ap (int_max o.t.lo) (sym part.over_low) ∙ sym more.t_low) (closed_new st n p.last (Gives Tmax window len l) o.t.lo (pos (excesses (l.swing c) (first c) (stop window len c))) h.last some less taken (gives_t window len l c) h.outcome.t.low);
-        high = subst (IsClosedQuantity Tmax window len (n + 1) st g) (ap (int_max o.t.hi) (sym part.over_high) ∙ sym more.t_high) (closed_new st n p.last (Gives Tmax window len g) o.t.hi (pos (excesses (g.swing c) (first c) (stop window len c))) h.last some less taken (gives_t window len g c) h.outcome.t.high);
-      };
+      low = λ q.
+          let gives = Gives q window len l in
+          let x = given q (l.step last (n + 1)) s.furthest.lo s.over.lo in
+          let is : int_max (interval_in q o).lo x ≡ (interval_in q r).lo = ap (λ (z : ℤ). int_max (interval_in q o).lo (given q z s.furthest.lo s.over.lo)) sl ∙ more_low o step s r q more in
+          subst (IsFirst at_most (HasNext flags n last) (closed_number window len (n + 1) q l)) is
+          (first_taken at_most flags n last gives (λ m. int_max m x) (interval_in q o).lo (λ y z a. upwards.kept y z x a) may
+          (λ b m t taken was. closed_new (IsTaken b) n last gives m x t some less taken (gives_between q window len l last (n + 1) s.furthest.lo s.over.lo natural_low part.furthest_low part.over_low) was)
+          (h.outcome.low q));
+      high = λ q.
+          let gives = Gives q window len g in
+          let x = given q (g.step last (n + 1)) s.furthest.hi s.over.hi in
+          let is : int_max (interval_in q o).hi x ≡ (interval_in q r).hi = ap (λ (z : ℤ). int_max (interval_in q o).hi (given q z s.furthest.hi s.over.hi)) sg ∙ more_high o step s r q more in
+          subst (IsFirst at_least (HasNext flags n last) (closed_number window len (n + 1) q g)) is
+          (first_taken at_least flags n last gives (λ m. int_max m x) (interval_in q o).hi (λ y z a. downwards.kept y z x a) may
+          (λ b m t taken was. closed_new (IsTaken b) n last gives m x t some less taken (gives_between q window len g last (n + 1) s.furthest.hi s.over.hi natural_high part.furthest_high part.over_high) was)
+          (h.outcome.high q));
     }
-
--- ---- the pass
-
-pub passed_start : (window : ℕ) (halves : List Interval) (resolution : List Bool) (p : Pass) → p.last ≡ 0 → p.before.lo ≡ pos 1000000000 → p.before.hi ≡ pos 1000000000
-    → (p.outcome.dc.lo ≡ pos 0) × (p.outcome.dc.hi ≡ pos 0) × (p.outcome.dmax.lo ≡ pos 0) × (p.outcome.dmax.hi ≡ pos 0) × (p.outcome.t.lo ≡ pos 0) × (p.outcome.t.hi ≡ pos 0)
-    → HasPassed window halves resolution 0 p
-passed_start window halves resolution p last low high e =
-    let dc = closed_start window halves resolution Dc in
-    let dmax = closed_start window halves resolution Dmax in
-    let t = closed_start window halves resolution Tmax in
-    record {
-      last = rw last (last_none (IsTaken resolution));
-      before_low = rw last low;
-      before_high = rw last high;
-      in_range = record { low = omega (arith, ints, low); high = omega (arith, ints, high) };
-      outcome = record {
-        dc = record { low = rw (e.0) dc.low; high = rw (e.1) dc.high };
-        dmax = record { low = rw (e.2) dmax.low; high = rw (e.3) dmax.high };
-        t = record { low = rw (e.4) t.low; high = rw (e.5) t.high };
-      };
-    }
-
-pub passed_untaken : (window : ℕ) (halves : List Interval) (resolution : List Bool) (n : ℕ) (p : Pass) → ¬ IsTaken resolution (n + 1) → HasPassed window halves resolution n p → HasPassed window halves resolution (n + 1) p
-passed_untaken window halves resolution n p never h = record {
-  last = last_untaken (IsTaken resolution) n p.last never h.last;
-  before_low = h.before_low;
-  before_high = h.before_high;
-  in_range = h.in_range;
-  outcome = outcome_untaken window halves resolution n p.outcome never h.outcome;
-}
-
-pub passed_taken : (window : ℕ) (halves : List Interval) (resolution : List Bool) (n : ℕ) (q : Pass) → IsTaken resolution (n + 1) → q.last ≡ n + 1
-    → q.before.lo ≡ level window (lows halves) (n + 1) → q.before.hi ≡ level window (highs halves) (n + 1) → IsHalfPeriodRange q.before → IsClosedOutcome window halves resolution (n + 1) q.outcome
-    → HasPassed window halves resolution (n + 1) q
-passed_taken window halves resolution n q taken last low high range outcome = record {
-  last = rw last (last_taken (IsTaken resolution) n taken);
-  before_low = rw (last, add-one) (rw add-one at low);
-  before_high = rw (last, add-one) (rw add-one at high);
-  in_range = range;
-  outcome = outcome;
-}
 
 -- ---- the end
-
--- two greater of three, where the second is 0
-skipped : (P : ℤ → Type 0) (m s f r : ℤ) → pos 0 ≤ℤ m → s ≡ pos 0 → r ≡ int_max (int_max m s) f → P (int_max m f) → P r
-skipped P m s f r natural none e h = let k : int_max m f ≡ r = omega (arith, ints, clamps, e, none, natural) in subst P k h
 
 -- the greatest of no place is 0
 empty_part : (f : ℕ → ℤ) (a b : ℕ) (m : ℤ) → b ≤ a → IsGreatestOrZero (IsAmong f a b) m → m ≡ pos 0
@@ -212,36 +250,46 @@ open_stop : (window n last : ℕ) → stop window n (open_change last) ≡ n
 open_stop window n zero = refl
 open_stop window n (suc j) = refl
 
-pub outcome_end : (window : ℕ) (halves : List Interval) (resolution : List Bool) (p : Pass) (none : Interval) (s : Swings) (r : Outcome)
-    → HasPassed window halves resolution (length halves) p → none.lo ≡ pos 0 → none.hi ≡ pos 0 → AreSwings halves p.before p.last (length halves) s → IsMore p.outcome none s r → IsOutcome window halves resolution r
-outcome_end window halves resolution p none s r h low high swings more =
-    let st = IsTaken resolution in
-    let z = start_untaken resolution in
+-- the greatest number that the open change gives, where no step is 0
+gives_open : (q : Quantity) (window count : ℕ) (r : Readings) (last : ℕ) (step furthest over : ℤ) → step ≡ pos 0
+    → IsGreatestOrZero (IsAmong (r.swing (open_change last)) (first (open_change last)) (stop window count (open_change last))) furthest
+    → over ≡ pos (excesses (r.swing (open_change last)) (first (open_change last)) (stop window count (open_change last))) → IsGreatestOrZero (Gives q window count r (open_change last)) (given q step furthest over)
+gives_open Dc window count r last step furthest over none most is = subst (IsGreatestOrZero (Gives Dc window count r (open_change last))) (sym none) (gives_dc_open window count r last)
+gives_open Dmax window count r last step furthest over none most is =
+    let e : furthest ≡ int_max step furthest = omega (arith, ints, clamps, none, most.natural) in
+    subst (IsGreatestOrZero (Gives Dmax window count r (open_change last))) e (gives_dmax_open window count r last furthest most)
+gives_open Tmax window count r last step furthest over none most is = subst (IsGreatestOrZero (Gives Tmax window count r (open_change last))) (sym is) (gives_t window count r (open_change last))
+
+given_none : (q : Quantity) (step furthest over : ℤ) → step ≡ pos 0 → furthest ≡ pos 0 → over ≡ pos 0 → given q step furthest over ≡ pos 0
+given_none Dc step furthest over a b c = a
+given_none Dmax step furthest over a b c = omega (arith, ints, clamps, a, b)
+given_none Tmax step furthest over a b c = c
+
+pub hulls_end : (window : ℕ) (halves : List Interval) (flags : List Flag) (p : Pass) (none : Interval) (s : Swings) (r : Outcome) → HasPassed window halves flags (length halves) p
+    → none.lo ≡ pos 0 → none.hi ≡ pos 0 → AreSwings halves p.before p.last (length halves) s → IsMore p.outcome none s r
+    → AreHulls window halves (HasLast flags (length halves) p.last) (all_number window (length halves)) r
+hulls_end window halves flags p none s r h low high swings more =
     let l = least_readings window halves in
     let g = greatest_readings window halves in
     let n = length halves in
-    let c = open_change p.last in
+    let last = p.last in
+    let c = open_change last in
     let o = p.outcome in
-    let at : AreSwings halves p.before (first c) (stop window n c) s = rw (open_first p.last, open_stop window n p.last) swings in
+    let at : AreSwings halves p.before (first c) (stop window n c) s = rw (open_first last, open_stop window n last) swings in
     let part = part_is window halves p.before c s h.before_low h.before_high at in
-    let nothing_low : 0 < p.last → n ≤ p.last → s.furthest.lo ≡ pos 0 = λ some most. empty_part (least_swing halves p.before) p.last n s.furthest.lo most swings.furthest_low in
-    let nothing_high : 0 < p.last → n ≤ p.last → s.furthest.hi ≡ pos 0 = λ some most. empty_part (greatest_swing halves p.before) p.last n s.furthest.hi most swings.furthest_high in
-    let none_low : 0 < p.last → n ≤ p.last → pos (excesses (l.swing c) (first c) (stop window n c)) ≡ pos 0 = λ some most. ap pos (excesses_none (l.swing c) (first c) (stop window n c) (rw (open_first p.last, open_stop window n p.last) most)) in
-    let none_high : 0 < p.last → n ≤ p.last → pos (excesses (g.swing c) (first c) (stop window n c)) ≡ pos 0 = λ some most. ap pos (excesses_none (g.swing c) (first c) (stop window n c) (rw (open_first p.last, open_stop window n p.last) most)) in
-    let nothing : 0 < p.last → n ≤ p.last → pos 0 ≡ pos 0 = λ some most. refl in
+    let empty_low : n ≤ last → s.furthest.lo ≡ pos 0 = λ most. empty_part (least_swing halves p.before) last n s.furthest.lo most swings.furthest_low in
+    let empty_high : n ≤ last → s.furthest.hi ≡ pos 0 = λ most. empty_part (greatest_swing halves p.before) last n s.furthest.hi most swings.furthest_high in
+    let never_low : n ≤ last → s.over.lo ≡ pos 0 = λ most. swings.certain ∙ ap pos (excesses_none (least_swing halves p.before) last n most) in
+    let never_high : n ≤ last → s.over.hi ≡ pos 0 = λ most. swings.possible ∙ ap pos (excesses_none (greatest_swing halves p.before) last n most) in
     record {
-      dc = record {
-        low = subst (IsQuantity Dc window n st l) (ap (int_max o.dc.lo) (sym low) ∙ sym more.dc_low) (greatest_of_all st n p.last (Gives Dc window n l) o.dc.lo (pos 0) z h.last (gives_dc_open window n l p.last) nothing h.outcome.dc.low);
-        high = subst (IsQuantity Dc window n st g) (ap (int_max o.dc.hi) (sym high) ∙ sym more.dc_high) (greatest_of_all st n p.last (Gives Dc window n g) o.dc.hi (pos 0) z h.last (gives_dc_open window n g p.last) nothing h.outcome.dc.high);
-      };
-      dmax = record {
-        low = skipped (IsQuantity Dmax window n st l) o.dmax.lo none.lo s.furthest.lo r.dmax.lo h.outcome.dmax.low.natural low more.dmax_low
-            (greatest_of_all st n p.last (Gives Dmax window n l) o.dmax.lo s.furthest.lo z h.last (gives_dmax_open window n l p.last s.furthest.lo part.furthest_low) nothing_low h.outcome.dmax.low);
-        high = skipped (IsQuantity Dmax window n st g) o.dmax.hi none.hi s.furthest.hi r.dmax.hi h.outcome.dmax.high.natural high more.dmax_high
-            (greatest_of_all st n p.last (Gives Dmax window n g) o.dmax.hi s.furthest.hi z h.last (gives_dmax_open window n g p.last s.furthest.hi part.furthest_high) nothing_high h.outcome.dmax.high);
-      };
-      t = record {
-        low = subst (IsQuantity Tmax window n st l) (ap (int_max o.t.lo) (sym part.over_low) ∙ sym more.t_low) (greatest_of_all st n p.last (Gives Tmax window n l) o.t.lo (pos (excesses (l.swing c) (first c) (stop window n c))) z h.last (gives_t window n l c) none_low h.outcome.t.low);
-        high = subst (IsQuantity Tmax window n st g) (ap (int_max o.t.hi) (sym part.over_high) ∙ sym more.t_high) (greatest_of_all st n p.last (Gives Tmax window n g) o.t.hi (pos (excesses (g.swing c) (first c) (stop window n c))) z h.last (gives_t window n g c) none_high h.outcome.t.high);
-      };
+      low = λ q.
+          let x = given q none.lo s.furthest.lo s.over.lo in
+          subst (IsFirst at_most (HasLast flags n last) (all_number window n q l)) (more_low o none s r q more)
+          (first_ended at_most upwards flags n last (Gives q window n l) (interval_in q o).lo x (gives_open q window n l last none.lo s.furthest.lo s.over.lo low part.furthest_low part.over_low)
+          (λ some most. given_none q none.lo s.furthest.lo s.over.lo low (empty_low most) (never_low most)) (h.outcome.low q));
+      high = λ q.
+          let x = given q none.hi s.furthest.hi s.over.hi in
+          subst (IsFirst at_least (HasLast flags n last) (all_number window n q g)) (more_high o none s r q more)
+          (first_ended at_least downwards flags n last (Gives q window n g) (interval_in q o).hi x (gives_open q window n g last none.hi s.furthest.hi s.over.hi high part.furthest_high part.over_high)
+          (λ some most. given_none q none.hi s.furthest.hi s.over.hi high (empty_high most) (never_high most)) (h.outcome.high q));
     }

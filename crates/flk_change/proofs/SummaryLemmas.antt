@@ -1,12 +1,10 @@
 -- A resolution has one interval of each quantity, all resolutions have one least interval, and half-periods with flags have one summary.
-use Rattle.std.proofs.Common.{◌≡◌, ℕ, zero, suc, ◌-◌, ◌^◌, ◌<◌, ◌≤◌, Bool, List, ◌∷◌, ◌++◌, length, map, ℤ, pos, ◌-ℤ◌, ◌≤ℤ◌, refl, sym, ap, ◌∙◌, subst, arith, ⊎_elim, add-one}
-use Rattle.std.specs.Int.{int_min, int_max}
-use Rattle.std.proofs.lemmas.Int.{ints, clamps}
+use Rattle.std.proofs.Common.{◌≡◌, ℕ, ◌<◌, ◌≤◌, Bool, List, ◌∷◌, ◌++◌, length, map, ℤ, pos, ◌-ℤ◌, ◌≤ℤ◌, refl, sym, ap, ◌∙◌, subst, arith, ⊎_elim}
+use Rattle.std.proofs.lemmas.Int.{ints}
 use Rattle.std.proofs.lemmas.Bool.{cases_lt}
 use Rattle.std.proofs.lemmas.List.{length-map}
 use Rattle.std.proofs.lemmas.List.Elements.{All-head}
 use Rattle.std.proofs.lemmas.List.Sums.{count_by-le-length}
-use Rattle.std.proofs.lemmas.Nat.{pow_pos}
 use Rattle.flk_exact.specs.Extreme.{IsGreatest}
 use Rattle.flk_exact.proofs.ExtremeLemmas.{least_unique, greatest_unique, least_exists, greatest_exists}
 use Rattle.flk_num.specs.declared.interval.Interval.{Interval}
@@ -16,8 +14,7 @@ use Rattle.flk_change.specs.declared.flag.Flag.{Flag}
 use Rattle.flk_change.specs.declared.summary.ChangeSummary.{ChangeSummary}
 use Rattle.flk_change.specs.Changes.{distance, Quantity, Dc, Dmax, Tmax}
 use Rattle.flk_change.specs.Resolutions.{is_doubtful, doubtful_count, RunsFrom, IsHull, interval_of, AreWide, IsSummary}
-use Rattle.flk_change.specs.Pass.{resolution_of, IsHullBelow}
-use Rattle.flk_change.proofs.HullLemmas.{runs_low, runs_high, hull_one, hull_more, hull_all}
+use Rattle.flk_change.proofs.HullLemmas.{runs_low, runs_high, hull_exists}
 use Rattle.flk_change.proofs.WideLemmas.{highs_above}
 use Rattle.flk_change.proofs.EnclosureLemmas.{least_have, greatest_have, least_at_most_greatest}
 
@@ -36,25 +33,6 @@ runs_unique q window halves resolution v w one other =
     same_ends v w (runs_low q window halves resolution v.lo v.hi w.lo w.hi one other) (runs_high q window halves resolution v.lo v.hi w.lo w.hi one other)
 
 -- ---- all resolutions
-
-hull_below : (q : Quantity) (window : ℕ) (halves : List Interval) (flags : List Flag) (n : ℕ) → 0 < window → (v : Interval) × IsHullBelow q window halves flags (suc n) v
-hull_below q window halves flags zero some =
-    let first = runs_exist q window halves (resolution_of flags 0) some in
-    (first.0, hull_one q window halves flags first.0 first.1)
-hull_below q window halves flags (suc n) some =
-    let old = hull_below q window halves flags n some in
-    let next = runs_exist q window halves (resolution_of flags (suc n)) some in
-    let v = old.0 in
-    let r = next.0 in
-    let w : Interval = record { lo = int_min v.lo r.lo; hi = int_max v.hi r.hi; ordered = omega (arith, ints, clamps, v.ordered, r.ordered) } in
-    (w, rw (← add-one) (hull_more q window halves flags (suc n) v r w refl refl old.1 next.1))
-
-pub hull_exists : (q : Quantity) (window : ℕ) (halves : List Interval) (flags : List Flag) → 0 < window → (v : Interval) × IsHull q window halves flags v
-hull_exists q window halves flags some =
-    let n = 2 ^ doubtful_count flags - 1 in
-    let all : suc n ≡ 2 ^ doubtful_count flags = omega (arith, pow_pos (doubtful_count flags)) in
-    let below = hull_below q window halves flags n some in
-    (below.0, hull_all q window halves flags (suc n) below.0 all below.1)
 
 -- each holds what the other reaches
 pub hull_unique : (q : Quantity) (window : ℕ) (halves : List Interval) (flags : List Flag) (v w : Interval) → IsHull q window halves flags v → IsHull q window halves flags w → v ≡ w

@@ -21,7 +21,7 @@ use Rattle.flk_change.proofs.QuantityLemmas.{Follows, dc_follows, dmax_follows}
 use Rattle.flk_change.proofs.ValueLemmas.{doubtful_is_near}
 
 -- upper ends are at most the width above the lower ones
-ends_narrow : (width : ℕ) (halves : List Interval) → All (IsNoWider width) halves → AllZip (λ x y. y ≤ℤ (x +ℤ pos width)) (lows halves) (highs halves)
+pub ends_narrow : (width : ℕ) (halves : List Interval) → All (IsNoWider width) halves → AllZip (λ x y. y ≤ℤ (x +ℤ pos width)) (lows halves) (highs halves)
 ends_narrow width [] narrow = tt
 ends_narrow width (h ∷ hs) narrow = ((All-head (IsNoWider width) h hs narrow).within, ends_narrow width hs (All-tail (IsNoWider width) h hs narrow))
 

@@ -1,17 +1,17 @@
 -- What the parts of `changes` keep on their way through the half-periods. No public contract speaks of it.
-use Rattle.std.specs.Prelude.{◌≡◌, ℕ, zero, suc, ◌/◌, ◌%◌, ◌<◌, ◌≤◌, ◌==◌, Bool, true, false, List, [], ◌∷◌, length, slice_index_or, ℤ, pos, ◌≤ℤ◌}
+use Rattle.std.specs.Prelude.{◌≡◌, ℕ, zero, suc, ◌+◌, ◌<◌, ◌≤◌, Bool, Option, Some, None, List, All, Contains, length, slice_index_or, ℤ, pos, ◌≤ℤ◌}
 use Rattle.flk_num.specs.declared.interval.Interval.{Interval}
 use Rattle.flk_change.specs.declared.flag.Flag.{Flag}
 use Rattle.flk_change.specs.declared.flag.Flag.TheVariants.{Early, Sure, Not, Doubtful}
 use Rattle.flk_change.specs.declared.level.Sums.{Sums}
 use Rattle.flk_change.specs.declared.swings.Swings.{Swings}
-use Rattle.flk_change.specs.declared.pass.Outcome.{Outcome}
+use Rattle.flk_change.specs.declared.outcome.Outcome.{Outcome}
 use Rattle.flk_change.specs.declared.pass.Pass.{Pass}
 use Rattle.flk_num.specs.Interval.{lows, highs}
 use Rattle.flk_num.specs.Values.{IsHalfPeriodRange}
 use Rattle.flk_change.specs.Steady.{window_at}
-use Rattle.flk_change.specs.Changes.{Change, between, after, whole, IsChange, total, before, Readings, IsAmong, excesses, IsGreatestOrZero, Quantity, Dc, Dmax, Tmax, Gives}
-use Rattle.flk_change.specs.Resolutions.{IsTaken, RunsFrom, least_distance, greatest_distance, least_readings, greatest_readings}
+use Rattle.flk_change.specs.Changes.{Change, between, after, whole, IsChange, total, before, Readings, IsAmong, excesses, IsGreatestOrZero, Quantity, Dc, Dmax, Tmax, Gives, IsQuantity}
+use Rattle.flk_change.specs.Resolutions.{Resolves, AreResolved, IsTaken, least_distance, greatest_distance, least_readings, greatest_readings}
 
 -- the sums of the lower and of the upper ends in the window that ends after the first j half-periods
 pub record AreSums (window : ℕ) (halves : List Interval) (j : ℕ) (s : Sums) : Type 0 where
@@ -47,19 +47,6 @@ abbrev pub IsClosedQuantity : Quantity → ℕ → ℕ → ℕ → (ℕ → Type
 IsClosedQuantity quantity window count n steady r m =
     IsGreatestOrZero (λ x. (c : Change) × IsClosed steady n c × Gives quantity window count r c x) m
 
-pub record ClosedRunsFrom (quantity : Quantity) (window : ℕ) (halves : List Interval) (resolution : List Bool) (n : ℕ)
-    (lo hi : ℤ) : Type 0 where
-  pub low : IsClosedQuantity quantity window (length halves) n (IsTaken resolution) (least_readings window halves) lo
-  pub high : IsClosedQuantity quantity window (length halves) n (IsTaken resolution)
-      (greatest_readings window halves) hi
-
--- the intervals of these changes
-pub record IsClosedOutcome (window : ℕ) (halves : List Interval) (resolution : List Bool) (n : ℕ)
-    (o : Outcome) : Type 0 where
-  pub dc : ClosedRunsFrom Dc window halves resolution n o.dc.lo o.dc.hi
-  pub dmax : ClosedRunsFrom Dmax window halves resolution n o.dmax.lo o.dmax.hi
-  pub t : ClosedRunsFrom Tmax window halves resolution n o.t.lo o.t.hi
-
 -- the last steady window of the first n ends after the first `last`; 0 where there is none
 pub record IsLastTaken (steady : ℕ → Type 0) (n last : ℕ) : Type 0 where
   pub within : last ≤ n
@@ -71,47 +58,74 @@ abbrev pub open_change : ℕ → Change
 open_change zero = whole
 open_change (suc j) = after (suc j)
 
--- the pass has gone through the first n half-periods
-pub record HasPassed (window : ℕ) (halves : List Interval) (resolution : List Bool) (n : ℕ) (p : Pass) : Type 0 where
-  pub last : IsLastTaken (IsTaken resolution) n p.last
+-- ---- of many resolutions at once
+
+-- v is the first of these resolutions' numbers in an order: one of them has it, and each has a number that v doesn't
+-- come after
+pub record IsFirst (order : ℤ → ℤ → Type 0) (family : List Bool → Type 0) (number : List Bool → ℤ → Type 0)
+    (v : ℤ) : Type 0 where
+  pub reached : (resolution : List Bool) × family resolution × number resolution v
+  pub bounds : (resolution : List Bool) → family resolution → (m : ℤ) × number resolution m × order v m
+
+abbrev pub at_most : ℤ → ℤ → Type 0
+at_most v m = v ≤ℤ m
+
+abbrev pub at_least : ℤ → ℤ → Type 0
+at_least v m = m ≤ℤ v
+
+abbrev pub interval_in : Quantity → Outcome → Interval
+interval_in Dc o = o.dc
+interval_in Dmax o = o.dmax
+interval_in Tmax o = o.t
+
+-- the least intervals that hold those of these resolutions: their lower ends are least, their upper ends greatest
+pub record AreHulls (window : ℕ) (halves : List Interval) (family : List Bool → Type 0)
+    (number : Quantity → Readings → List Bool → ℤ → Type 0) (o : Outcome) : Type 0 where
+  pub low : (quantity : Quantity)
+      → IsFirst at_most family (number quantity (least_readings window halves)) (interval_in quantity o).lo
+  pub high : (quantity : Quantity)
+      → IsFirst at_least family (number quantity (greatest_readings window halves)) (interval_in quantity o).hi
+
+-- the number of a resolution, by the changes that are over before the first n half-periods are
+abbrev pub closed_number : ℕ → ℕ → ℕ → Quantity → Readings → List Bool → ℤ → Type 0
+closed_number window count n quantity r resolution m = IsClosedQuantity quantity window count n (IsTaken resolution) r m
+
+-- the same by all changes
+abbrev pub all_number : ℕ → ℕ → Quantity → Readings → List Bool → ℤ → Type 0
+all_number window count quantity r resolution m = IsQuantity quantity window count (IsTaken resolution) r m
+
+-- the resolutions whose last steady window, of the first n, ends after the first `last`
+abbrev pub HasLast : List Flag → ℕ → ℕ → List Bool → Type 0
+HasLast flags n last resolution = AreResolved flags resolution × IsLastTaken (IsTaken resolution) n last
+
+-- those of them that take the window as steady that ends after one half-period more
+abbrev pub HasNext : List Flag → ℕ → ℕ → List Bool → Type 0
+HasNext flags n last resolution = HasLast flags n last resolution × IsTaken resolution (n + 1)
+
+-- that window may be taken as steady, or as not steady
+abbrev pub MayResolve : List Flag → ℕ → Bool → Type 0
+MayResolve flags n steady = (n < length flags) × Resolves (slice_index_or flags n Early) steady
+
+-- the pass has gone through the first n half-periods, for all resolutions with its last steady window
+pub record HasPassed (window : ℕ) (halves : List Interval) (flags : List Flag) (n : ℕ) (p : Pass) : Type 0 where
   pub before_low : p.before.lo ≡ before window (lows halves) (open_change p.last)
   pub before_high : p.before.hi ≡ before window (highs halves) (open_change p.last)
   pub in_range : IsHalfPeriodRange p.before
-  pub outcome : IsClosedOutcome window halves resolution n p.outcome
+  pub outcome : AreHulls window halves (HasLast flags n p.last) (closed_number window (length halves) n) p.outcome
 
--- the intervals of a resolution
-pub record IsOutcome (window : ℕ) (halves : List Interval) (resolution : List Bool) (o : Outcome) : Type 0 where
-  pub dc : RunsFrom Dc window halves resolution o.dc.lo o.dc.hi
-  pub dmax : RunsFrom Dmax window halves resolution o.dmax.lo o.dmax.hi
-  pub t : RunsFrom Tmax window halves resolution o.t.lo o.t.hi
+-- these passes have, and each resolution has its last steady window in one of them
+pub record HavePassed (window : ℕ) (halves : List Interval) (flags : List Flag) (n : ℕ)
+    (passes : List Pass) : Type 0 where
+  pub each : All (HasPassed window halves flags n) passes
+  pub cover : (resolution : List Bool) → AreResolved flags resolution
+      → (p : Pass) × Contains passes p × IsLastTaken (IsTaken resolution) n p.last
 
--- Resolutions are numbered: a number has one binary digit for each Doubtful flag, the lowest for the first. Whether
--- the first window is taken as steady, and the number that is left for the flags after it:
-abbrev pub takes_steady : Flag → ℕ → Bool
-takes_steady Early choices = false
-takes_steady Sure choices = true
-takes_steady Not choices = false
-takes_steady Doubtful choices = choices % 2 == 1
+abbrev pub IsPassInRange : Pass → Type 0
+IsPassInRange p = IsHalfPeriodRange p.before
 
-abbrev pub choices_after : Flag → ℕ → ℕ
-choices_after Early choices = choices
-choices_after Sure choices = choices
-choices_after Not choices = choices
-choices_after Doubtful choices = choices / 2
-
-abbrev pub resolution_of : List Flag → ℕ → List Bool
-resolution_of [] choices = []
-resolution_of (f ∷ fs) choices = takes_steady f choices ∷ resolution_of fs (choices_after f choices)
-
--- v is the least interval that holds the quantity's intervals of the resolutions with a number below n
-pub record IsHullBelow (quantity : Quantity) (window : ℕ) (halves : List Interval) (flags : List Flag) (n : ℕ)
-    (v : Interval) : Type 0 where
-  pub holds : (k : ℕ) (lo hi : ℤ) → k < n → RunsFrom quantity window halves (resolution_of flags k) lo hi
-      → (v.lo ≤ℤ lo) × (hi ≤ℤ v.hi)
-  pub low_reached : (k : ℕ) × (hi : ℤ) × (k < n) × RunsFrom quantity window halves (resolution_of flags k) v.lo hi
-  pub high_reached : (k : ℕ) × (lo : ℤ) × (k < n) × RunsFrom quantity window halves (resolution_of flags k) lo v.hi
-
-pub record AreHullsBelow (window : ℕ) (halves : List Interval) (flags : List Flag) (n : ℕ) (o : Outcome) : Type 0 where
-  pub dc : IsHullBelow Dc window halves flags n o.dc
-  pub dmax : IsHullBelow Dmax window halves flags n o.dmax
-  pub t : IsHullBelow Tmax window halves flags n o.t
+-- how many of so many passes stay before that of a window with this flag
+abbrev pub kept_before : Flag → ℕ → Option ℕ
+kept_before Early count = None
+kept_before Sure count = Some 0
+kept_before Not count = None
+kept_before Doubtful count = Some count

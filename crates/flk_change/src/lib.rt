@@ -6,19 +6,20 @@
 //! quantities for every list of exact values within the half-periods' intervals ([`ChangeSummary`]).
 //!
 //! Where a window is steady for some values and not for others, its flag is Doubtful. With up to six such flags
-//! `changes` goes through every way to take them (`resolve`). One way is one pass over the half-periods (`pass`),
-//! which keeps the sums of the window (`level`) and judges the half-periods of each change (`swings`). With more than
-//! six it answers wide intervals (`wide`). `docs/CHANGES_AND_DOUBT.md` has a picture.
+//! `changes` judges every way to take them at once (`resolve`), by one pass for each window that may be the last
+//! steady one (`pass`). It keeps the sums of the window (`level`), judges the half-periods of each change (`swings`),
+//! and adds it to the intervals (`outcome`). With more than six it answers wide intervals (`wide`).
+//! `docs/CHANGES_AND_DOUBT.md` has a picture.
 #![tactic(auto)]
 
 mod candidates;
-mod choice;
 mod ends;
 mod extreme;
 mod extremes;
 mod flag;
 mod laws;
 mod level;
+mod outcome;
 mod pass;
 mod resolve;
 mod steady;

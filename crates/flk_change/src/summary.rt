@@ -6,8 +6,7 @@ ghost use Rattle.flk_change.specs.Steady.{AreFlags};
 ghost use Rattle.flk_change.specs.Changes.{Quantity, Dc, Dmax};
 ghost use Rattle.flk_change.specs.Resolutions.{doubtful_count, IsHull, AreWide, HoldsEachList, KeepsQuantityWidth, KeepsCount, KeepsSwings, AreNearLimit, interval_of};
 
-use crate::choice::count_doubtful;
-use crate::flag::Flag;
+use crate::flag::{Flag, count_doubtful};
 use crate::resolve::resolved;
 use crate::wide::wide;
 use flk_num::Interval;
@@ -35,7 +34,7 @@ const MOST_RESOLVED: u32 = 6;
 ///
 /// With up to six Doubtful flags each answer is the least interval that holds those of every way to take the Doubtful
 /// windows, as steady or as not steady. With more it is a wide interval from 0. Takes no memory. Its time grows with
-/// the half-periods, by at most 64 passes over them.
+/// the half-periods: each change between two windows that may be steady is judged once.
 ///
 /// [`Steady`]: crate::Steady
 pub fn changes(halves: &[Interval], flags: &[Flag], window: usize) -> ChangeSummary
@@ -63,7 +62,7 @@ pub fn changes(halves: &[Interval], flags: &[Flag], window: usize) -> ChangeSumm
 {
     let doubtful = count_doubtful(flags);
     let outcome = if doubtful <= MOST_RESOLVED {
-        resolved(halves, flags, window, doubtful)
+        resolved(halves, flags, window)
     } else {
         wide(halves)
     };

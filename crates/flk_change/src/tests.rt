@@ -80,6 +80,58 @@ fn one_window_in_doubt(rt: HostRuntime) -> Result<(), Fail> {
     Ok(())
 }
 
+// A window is two half-periods here. The ends of what is answered come from several resolutions.
+#[test]
+fn six_windows_in_doubt(rt: HostRuntime) -> Result<(), Fail> {
+    let first = [
+        between(1_039_700_000, 1_040_300_000),
+        between(1_000_000_000, 1_000_000_000),
+        between(1_003_600_000, 1_004_200_000),
+        between(1_000_000_000, 1_000_000_000),
+        between(999_700_000, 1_000_300_000),
+        between(1_003_400_000, 1_004_400_000),
+        between(1_039_700_000, 1_040_300_000),
+        between(964_000_000, 964_000_000),
+        between(959_500_000, 960_500_000),
+        between(963_500_000, 964_500_000),
+        between(959_700_000, 960_300_000),
+        between(968_200_000, 968_800_000),
+    ];
+    assert_eq!(rt;
+        judged(rt.alloc(), &first, 2)?,
+        summary(
+            between(0, 40_850_000),
+            between(39_050_000, 42_850_000),
+            between(1, 6),
+            6
+        )
+    );
+    let second = [
+        between(999_500_000, 1_000_500_000),
+        between(963_700_000, 964_300_000),
+        between(960_000_000, 960_000_000),
+        between(963_700_000, 964_300_000),
+        between(959_700_000, 960_300_000),
+        between(999_700_000, 1_000_300_000),
+        between(1_003_600_000, 1_004_200_000),
+        between(968_500_000, 968_500_000),
+        between(1_039_700_000, 1_040_300_000),
+        between(1_003_400_000, 1_004_400_000),
+        between(999_500_000, 1_000_500_000),
+        between(1_003_400_000, 1_004_400_000),
+    ];
+    assert_eq!(rt;
+        judged(rt.alloc(), &second, 2)?,
+        summary(
+            between(0, 40_750_000),
+            between(0, 78_600_000),
+            between(0, 6),
+            6
+        )
+    );
+    Ok(())
+}
+
 #[test]
 fn more_windows_in_doubt_than_are_resolved(rt: HostRuntime) -> Result<(), Fail> {
     let mut halves = Vec::new(rt.alloc());

@@ -7,7 +7,7 @@ ghost use Rattle.flk_num.specs.Values.{IsHalfPeriodRange};
 ghost use Rattle.flk_change.specs.Resolutions.{AreWide};
 
 use crate::ends::{NOMINAL, distance, hull};
-use crate::pass::Outcome;
+use crate::outcome::Outcome;
 use flk_num::Interval;
 
 // The least lo and the greatest hi.

@@ -7,19 +7,8 @@ use Rattle.flk_num.specs.Values.{IsNoWider}
 use Rattle.flk_change.specs.declared.flag.Flag.{Flag}
 use Rattle.flk_change.specs.Changes.{Quantity, IsQuantity}
 use Rattle.flk_change.specs.Resolutions.{AreResolved, IsTaken, doubtful_count, least_readings, IsHull, KeepsQuantityWidth}
-use Rattle.flk_change.specs.Pass.{resolution_of}
-use Rattle.flk_change.proofs.ChoiceLemmas.{number_of}
+use Rattle.flk_change.proofs.ResolutionLemmas.{one_resolution}
 use Rattle.flk_change.proofs.QuantityLemmas.{quantity_unique}
-
--- without Doubtful flags there is one resolution
-one_resolution : (flags : List Flag) (bs cs : List Bool) → doubtful_count flags ≡ 0 → AreResolved flags bs → AreResolved flags cs → bs ≡ cs
-one_resolution flags bs cs none h k =
-    let a = number_of flags bs h in
-    let b = number_of flags cs k in
-    let first : a.number < 2 ^ 0 = subst (λ (n : ℕ). a.number < 2 ^ n) none a.low in
-    let second : b.number < 2 ^ 0 = subst (λ (n : ℕ). b.number < 2 ^ n) none b.low in
-    let same : a.number ≡ b.number = omega (arith, first, second) in
-    sym a.is ∙ ap (resolution_of flags) same ∙ b.is
 
 pub settled_hull : (q : Quantity) (window : ℕ) (halves : List Interval) (flags : List Flag) (v : Interval) (width : ℕ) → doubtful_count flags ≡ 0 → KeepsQuantityWidth q window halves flags
     → All (IsNoWider width) halves → IsHull q window halves flags v → IsNoWider (width + width) v

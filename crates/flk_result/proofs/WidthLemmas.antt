@@ -25,7 +25,7 @@ use Rattle.flk_half.proofs.IntervalsLemmas.{intervals_hold, intervals_narrow}
 use Rattle.flk_change.specs.declared.flag.Flag.{Flag}
 use Rattle.flk_change.specs.Changes.{Dc, Dmax}
 use Rattle.flk_change.specs.Resolutions.{doubtful_count}
-use Rattle.flk_change.proofs.WidthLemmas.{dc_keeps_width, dmax_keeps_width, t_keeps_count, swings_keep_width, near_limit}
+use Rattle.flk_change.proofs.WidthLemmas.{ends_narrow, dc_keeps_width, dmax_keeps_width, t_keeps_count, swings_keep_width, near_limit}
 use Rattle.flk_front.specs.declared.point.Point.{Point}
 use Rattle.flk_front.specs.Adaptor.{IsAdapted}
 use Rattle.flk_front.specs.Width.{AreClose}
@@ -212,10 +212,6 @@ severities_narrow c w recorded r some filter is own means outputs delta a b outp
 
 -- ---- the long-term severity
 
-wide_ends : (width : ℕ) (vs : List Interval) → All (IsNoWider width) vs → AllZip (λ x y. y ≤ℤ (x +ℤ pos width)) (lows vs) (highs vs)
-wide_ends width [] h = tt
-wide_ends width (v ∷ vs) h = ((All-head (IsNoWider width) v vs h).within, wide_ends width vs (All-tail (IsNoWider width) v vs h))
-
 long_term_narrow : (c : Conditions) (recorded : List Fraction) (r : PhaseResult) → IsPhaseResult c recorded r → KeepsLongTermWidth r
 long_term_narrow c recorded r is width v there narrow =
     let ends : IsLongTermEnds c.count r.pst (Some v) = subst (IsLongTermEnds c.count r.pst) there is.long_term_is in
@@ -229,7 +225,7 @@ long_term_narrow c recorded r is width v there narrow =
     record {
       within =
           long_term_no_wider width (lows r.pst) (highs r.pst) v.lo v.hi (omega (arith, r.twelve, length-map r.pst (λ h. h.lo)))
-          (All-map (λ z. pos 0 ≤ℤ z) (λ h. h.lo) r.pst natural) (wide_ends width r.pst each) ends.1.low ends.1.high;
+          (All-map (λ z. pos 0 ≤ℤ z) (λ h. h.lo) r.pst natural) (ends_narrow width r.pst each) ends.1.low ends.1.high;
     }
 
 -- ---- the result

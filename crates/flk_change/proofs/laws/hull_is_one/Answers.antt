@@ -1,4 +1,5 @@
-use Rattle.flk_change.proofs.SummaryLemmas.{hull_exists, hull_unique}
+use Rattle.flk_change.proofs.HullLemmas.{hull_exists}
+use Rattle.flk_change.proofs.SummaryLemmas.{hull_unique}
 use Rattle.flk_change.proofs.laws.hull_is_one.Goals as goal
 
 pub returns-clause-exists : goal.returns-clause-exists

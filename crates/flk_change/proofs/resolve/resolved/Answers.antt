@@ -1,47 +1,80 @@
-use Rattle.std.proofs.Common.{arith, ℕ, ◌≡◌, ◌*◌, ◌^◌, ◌%◌, ◌<◌, ◌≤◌, ap, ◌∙◌}
-use Rattle.std.proofs.lemmas.Nat.{pow_below, pow_pos}
+use Rattle.std.proofs.Common.{arith, refl, sym, subst, ◌≡◌, ◌∙◌, ◌+◌, ◌<◌, ℕ, List, cond, get_or, length, length-set, take}
+use Rattle.std.proofs.lemmas.List.Sums.{sum_by-take-le}
+use Rattle.flk_num.specs.declared.interval.Interval.{Interval}
+use Rattle.flk_change.specs.declared.flag.Flag.{Flag}
+use Rattle.flk_change.specs.declared.flag.Flag.TheVariants.{Early}
+use Rattle.flk_change.specs.declared.pass.Pass.{Pass}
+use Rattle.flk_num.specs.Interval.{lows, highs}
 use Rattle.flk_change.specs.Changes.{Dc, Dmax, Tmax}
-use Rattle.flk_change.proofs.HullLemmas.{hulls_one, hull_more, hull_all}
+use Rattle.flk_change.specs.Resolutions.{is_doubtful}
+use Rattle.flk_change.specs.Pass.{HavePassed}
+use Rattle.flk_change.proofs.SumLemmas.{window_start}
+use Rattle.flk_change.proofs.PassesLemmas.{passes_start, passes_more, passes_same, may_take, few_kept, few_more}
+use Rattle.flk_change.proofs.HullLemmas.{hull_of}
 use Rattle.flk_change.proofs.resolve.resolved.Goals as goal
+use Rattle.flk_change.proofs.resolve.resolved.Goals.{in-Some, in_default}
 
-small_power : (d : ℕ) → d ≤ 6 → ((1 * 2 ^ d) % 4294967296 ≡ 2 ^ d) × (0 < 2 ^ d)
-small_power d most =
-    let p : 2 ^ d < 2 ^ 7 = pow_below d 7 (omega arith) in
-    let q : 0 < 2 ^ d = pow_pos d in
-    (omega arith, q)
+-- the passes through all half-periods
+done : (window : ℕ) (halves : List Interval) (flags : List Flag) (n : ℕ) (passes : List Pass) → n ≡ length halves → HavePassed window halves flags n passes → HavePassed window halves flags (length halves) passes
+done window halves flags n passes all h = subst (λ (k : ℕ). HavePassed window halves flags k passes) all h
 
-pub loop-choices-init : goal.loop-choices-init
-loop-choices-init c = hulls_one c.args.window c.args.halves.now c.args.flags.now c.outcome_of-first.result c.outcome_of-first.ensures
+pub loop-i-init : goal.loop-i-init
+loop-i-init c = record {
+  sums = record { low = sym (window_start c.args.window (lows c.args.halves.now)); high = sym (window_start c.args.window (highs c.args.halves.now)) };
+  long = refl;
+  some = omega arith;
+  few = omega arith;
+  passed = passes_start c.args.window c.args.halves.now c.args.flags.now _ refl refl refl (refl, refl, refl, refl, refl, refl);
+}
 
-pub loop-choices-preserved : goal.loop-choices-preserved
-loop-choices-preserved c =
-    let n = c.loop-choices.choices in
-    let all = c.loop-choices.all in
-    let new = c.outcome_of.result in
-    let h = c.loop-choices.invariant in
-    let is = c.outcome_of.ensures in
-    let e = c.joined-all.ensures in
-    let r = c.joined-all.result in
+pub bounds-passes-kept : goal.bounds-passes-kept
+bounds-passes-kept c =
+    let flags = c.args.flags.now in
+    let n = c.loop-i.i in
+    let there : n < length flags = omega (arith, c.requires.flags.same_length, c.loop-i-test.true) in
+    let kept = few_kept flags n c.loop-i.count c.in-Some.kept (get_or flags n Early) there refl c.in-Some.ensures c.loop-i.invariant.few in
+    omega (arith, kept, c.requires.most, sum_by-take-le (λ g. cond {A = ℕ} (is_doubtful g) 1 0) flags (n + 1))
+
+pub loop-i-preserved : goal.loop-i-preserved
+loop-i-preserved c =
+    let window = c.args.window in
+    let halves = c.args.halves.now in
+    let flags = c.args.flags.now in
+    let n = c.loop-i.i in
+    let count = c.loop-i.count in
+    let passes = c.loop-i.passes in
+    let before = c.loop-i.invariant in
+    let f = get_or flags n Early in
+    let there : n < length flags = omega (arith, c.requires.flags.same_length, c.loop-i-test.true) in
     record {
-      dc = hull_more Dc c.args.window c.args.halves.now c.args.flags.now n all.dc new.dc r.dc e.dc_low e.dc_high h.dc is.dc;
-      dmax = hull_more Dmax c.args.window c.args.halves.now c.args.flags.now n all.dmax new.dmax r.dmax e.dmax_low e.dmax_high h.dmax is.dmax;
-      t = hull_more Tmax c.args.window c.args.halves.now c.args.flags.now n all.t new.t r.t e.t_low e.t_high h.t is.t;
+      sums = c.slid-sums.ensures;
+      long = elim c.match-kept.branch [
+        | in-Some w ↦ rw w.passes-is (length-set passes w.in-Some.kept w.met.result ∙ before.long)
+        | in_default w ↦ rw w.passes-is before.long
+      ];
+      some = elim c.match-kept.branch [
+        | in-Some w ↦ omega (arith, w.count-is)
+        | in_default w ↦ omega (arith, w.count-is, before.some)
+      ];
+      few = elim c.match-kept.branch [
+        | in-Some w ↦ omega (arith, w.count-is, few_kept flags n count w.in-Some.kept f there refl w.in-Some.ensures before.few)
+        | in_default w ↦ omega (arith, w.count-is, before.few, few_more flags n)
+      ];
+      passed = elim c.match-kept.branch [
+        | in-Some w ↦ (
+            let few = few_kept flags n count w.in-Some.kept f there refl w.in-Some.ensures before.few in
+            let room : w.in-Some.kept < length passes = omega (arith, before.long, few, c.requires.most, sum_by-take-le (λ g. cond {A = ℕ} (is_doubtful g) 1 0) flags (n + 1)) in
+            let new = w.met.ensures.passed flags (may_take flags n count w.in-Some.kept f there refl w.in-Some.ensures) before.passed in
+            rw (w.passes-is, w.count-is) (passes_more window halves flags n passes count w.in-Some.kept f w.met.result there refl w.in-Some.ensures room w.met.ensures.last before.passed new))
+        | in_default w ↦ rw (w.passes-is, w.count-is) (passes_same window halves flags n (take count passes) count f there refl w.in_default.ensures before.passed)
+      ];
     }
 
 pub returns-clause-dc : goal.returns-clause-dc
-returns-clause-dc c =
-    let p = small_power c.args.doubtful c.requires.most in
-    let end : c.loop-choices.choices ≡ 2 ^ c.args.doubtful = omega (arith, p.0, p.1) in
-    hull_all Dc c.args.window c.args.halves.now c.args.flags.now c.loop-choices.choices c.loop-choices.all.dc (end ∙ ap (λ (k : ℕ). 2 ^ k) c.requires.doubtful) c.loop-choices.invariant.dc
+returns-clause-dc c = hull_of Dc c.args.window c.args.halves.now c.args.flags.now c.ended.result c.requires.some (c.ended.ensures c.args.window c.args.flags.now (done c.args.window c.args.halves.now c.args.flags.now c.loop-i.i _ (omega arith) c.loop-i.invariant.passed))
 
 pub returns-clause-dmax : goal.returns-clause-dmax
-returns-clause-dmax c =
-    let p = small_power c.args.doubtful c.requires.most in
-    let end : c.loop-choices.choices ≡ 2 ^ c.args.doubtful = omega (arith, p.0, p.1) in
-    hull_all Dmax c.args.window c.args.halves.now c.args.flags.now c.loop-choices.choices c.loop-choices.all.dmax (end ∙ ap (λ (k : ℕ). 2 ^ k) c.requires.doubtful) c.loop-choices.invariant.dmax
+returns-clause-dmax c = hull_of Dmax c.args.window c.args.halves.now c.args.flags.now c.ended.result c.requires.some (c.ended.ensures c.args.window c.args.flags.now (done c.args.window c.args.halves.now c.args.flags.now c.loop-i.i _ (omega arith) c.loop-i.invariant.passed))
 
 pub returns-clause-t : goal.returns-clause-t
-returns-clause-t c =
-    let p = small_power c.args.doubtful c.requires.most in
-    let end : c.loop-choices.choices ≡ 2 ^ c.args.doubtful = omega (arith, p.0, p.1) in
-    hull_all Tmax c.args.window c.args.halves.now c.args.flags.now c.loop-choices.choices c.loop-choices.all.t (end ∙ ap (λ (k : ℕ). 2 ^ k) c.requires.doubtful) c.loop-choices.invariant.t
+returns-clause-t c = hull_of Tmax c.args.window c.args.halves.now c.args.flags.now c.ended.result c.requires.some (c.ended.ensures c.args.window c.args.flags.now (done c.args.window c.args.halves.now c.args.flags.now c.loop-i.i _ (omega arith) c.loop-i.invariant.passed))

@@ -1,6 +1,6 @@
 use Rattle.std.proofs.Common.{◌≡◌, ◌≤◌, take}
 use Rattle.flk_change.specs.Resolutions.{doubtful_count}
-use Rattle.flk_change.proofs.choice.count_doubtful.Given as goal
+use Rattle.flk_change.proofs.flag.count_doubtful.Given as goal
 
 abbrev pub invariant-loop-flag : goal.invariant-loop-flag
 invariant-loop-flag l = record {
