@@ -51,8 +51,7 @@ def map_of_crates():
 
 
 def modules():
-    text = re.sub(r"#\[cfg\(test\)\]\nmod \w+;", "", read("crates/flk_top/src/lib.rt"))
-    return set(re.findall(r"^mod (\w+);", text, re.M)) | {"lib"}
+    return set(re.findall(r"^mod (\w+);", read("crates/flk_top/src/lib.rt"), re.M)) | {"lib"}
 
 
 def code_of(crate):

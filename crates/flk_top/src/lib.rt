@@ -24,18 +24,12 @@ ghost use Rattle.flk_top.specs.Told.{TellsInputs};
 
 mod answer;
 mod blocks;
-#[cfg(test)]
-mod blocks_tests;
 mod certified;
 mod check;
 mod command;
 mod configuration;
 mod faults;
 mod generate;
-#[cfg(test)]
-mod generate_tests;
-#[cfg(test)]
-mod hostile_tests;
 mod job;
 mod laws;
 mod levels;
@@ -44,16 +38,8 @@ mod measure;
 mod phases;
 mod reply;
 mod report;
-#[cfg(test)]
-mod report_tests;
-#[cfg(test)]
-mod streaming_tests;
 mod tables;
-#[cfg(test)]
-mod tests;
 mod text;
-#[cfg(test)]
-mod width_tests;
 
 use crate::answer::answer;
 use flk_io::{Shelf, Sink, Words, write_all};
@@ -103,7 +89,7 @@ pub fn run<R: Threads + Sync, F: Shelf, K: Sink, G: Gate + Sync>(
     // Failed calls are told, and nothing else raises a count.
     ensures counts { IsCounted result (F.told shelf.old) (F.told shelf.new) (K.told sink.old) (K.told sink.new) }
 
-    // Only the files that the words name are touched, and each in its turn.
+    // Only the files that the words name are touched, and where they tell their bytes, each in its turn.
     ensures names { IsConfined words.now (F.told shelf.old) (F.told shelf.new) }
     ensures turn { ReadsInTurn words.now (F.told shelf.old) (F.told shelf.new) }
 

@@ -1,5 +1,5 @@
-use crate::{Gate, run};
 use flk_io::{MemShelf, MemSink, OutOfMemory, Words};
+use flk_top::{Gate, run};
 use std::alloc::Global;
 use std::test::Fail;
 use std::thread::Threads;

@@ -1,8 +1,8 @@
 //! How wide the intervals of a report are, beside the bounds that follow from the samples. The bounds are computed here
 //! in whole numbers, and each step is rounded to the safe side.
 
-use crate::report_tests::{answer_of, shelf_of, short_job};
-use crate::tests::{square_wave, varied};
+use crate::commands::{square_wave, varied};
+use crate::report::{answer_of, shelf_of, short_job};
 use flk_io::OutOfMemory;
 use std::alloc::Global;
 use std::test::Fail;

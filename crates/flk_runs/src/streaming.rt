@@ -1,10 +1,10 @@
 //! Reading that waits for the work or goes on beside it, and a configuration that claims far more records than there
 //! are.
 
-use crate::report_tests::{answer_of, shelf_of, short_job};
-use crate::tests::{varied, wave, words_of};
-use crate::{Gate, run};
+use crate::commands::{varied, wave, words_of};
+use crate::report::{answer_of, shelf_of, short_job};
 use flk_io::{Failed, MemShelf, MemSink, Shelf};
+use flk_top::{Gate, run};
 use std::sync::atomic::{AtomicU64, Ordering};
 use std::test::Fail;
 

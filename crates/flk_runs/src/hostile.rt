@@ -1,9 +1,9 @@
 // What files and calls do that mean no good: files cut at each byte, calls that fail one after the other, huge claims.
-use crate::blocks_tests::ascii;
-use crate::report_tests::{answer_of, shelf_of, short_job};
-use crate::run;
-use crate::tests::{Open, square_wave, varied, wave, words_of};
+use crate::blocks::ascii;
+use crate::commands::{Open, square_wave, varied, wave, words_of};
+use crate::report::{answer_of, shelf_of, short_job};
 use flk_io::{MemShelf, MemSink, OutOfMemory};
+use flk_top::run;
 use std::alloc::Global;
 use std::test::Fail;
 use std::thread::Threads;

@@ -1,10 +1,10 @@
 ghost use Rattle.std.specs.Prelude.{◌≤◌};
 
-use crate::hostile_tests::front;
-use crate::report_tests::{Meeting, answer_of, short_job};
-use crate::run;
-use crate::tests::{Open, words_of};
+use crate::commands::{Open, words_of};
+use crate::hostile::front;
+use crate::report::{Meeting, answer_of, short_job};
 use flk_io::{MemShelf, MemSink, OutOfMemory};
+use flk_top::run;
 use std::alloc::Global;
 use std::sync::atomic::{AtomicBool, AtomicU32, Ordering};
 use std::test::Fail;

@@ -1,8 +1,8 @@
 ghost use Rattle.std.specs.Prelude.{◌≤◌};
 
-use crate::run;
-use crate::tests::{Open, UNCERTAIN, square_wave, varied, wave, words_of};
+use crate::commands::{Open, UNCERTAIN, square_wave, varied, wave, words_of};
 use flk_io::{MemShelf, MemSink, OutOfMemory};
+use flk_top::run;
 use std::alloc::Global;
 use std::test::Fail;
 use std::thread::Threads;

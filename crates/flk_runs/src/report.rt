@@ -1,6 +1,6 @@
-use crate::tests::{Open, square_wave, varied, wave, words_of};
-use crate::{Gate, run};
+use crate::commands::{Open, square_wave, varied, wave, words_of};
 use flk_io::{MemShelf, MemSink, OutOfMemory};
+use flk_top::{Gate, run};
 use std::alloc::Global;
 use std::sync::atomic::{AtomicBool, AtomicU32, Ordering};
 use std::test::Fail;
@@ -244,8 +244,11 @@ fn each_fault_of_a_job(rt: HostRuntime) -> Result<(), Fail> {
 // Four channels, of which the last is a current.
 const FOUR: &str = "1,1A,0D\r\n1,U,A,,V,0.01,0,0,-32767,32767,1,1,P\r\n";
 
-const FOUR_CHANNELS: &str =
-    "4,4A,0D\r\n1,U L1,A,,V,0.01,0,0,-32767,32767,1,1,P\r\n2,U L2,B,,V,0.01,0,0,-32767,32767,1,1,P\r\n3,U L3,C,,V,0.01,0,0,-32767,32767,1,1,P\r\n4,I L1,A,,A,0.01,0,0,-32767,32767,1,1,P\r\n";
+const FOUR_CHANNELS: &str = "4,4A,0D\r\n\
+    1,U L1,A,,V,0.01,0,0,-32767,32767,1,1,P\r\n\
+    2,U L2,B,,V,0.01,0,0,-32767,32767,1,1,P\r\n\
+    3,U L3,C,,V,0.01,0,0,-32767,32767,1,1,P\r\n\
+    4,I L1,A,,A,0.01,0,0,-32767,32767,1,1,P\r\n";
 
 #[test]
 fn each_fault_of_a_match(rt: HostRuntime) -> Result<(), Fail> {
@@ -320,7 +323,8 @@ fn two_waves(
 // A job of one interval of a second of these channels.
 fn job_of(alloc: Global, nominal_mv: u32, channels: &str) -> Result<String, OutOfMemory> {
     format!(in alloc;
-        "lamp = \"230/50\"\nnominal_mv = {nominal_mv}\nuncertainty_uv = 0\nchannels = {channels}\ndmax = 4\nrun_in_s = 0\ninterval_s = 1\n"
+        "lamp = \"230/50\"\nnominal_mv = {nominal_mv}\nuncertainty_uv = 0\nchannels = {channels}\n\
+        dmax = 4\nrun_in_s = 0\ninterval_s = 1\n"
     )
 }
 
