@@ -18,6 +18,7 @@ pub struct Ends {
 const QUARTER: u128 = 4_611_686_018_427_387_904;
 
 /// The least and the greatest square of a voltage of `v`, in units of 2^-48, rounded down and up.
+#[inline(always)]
 pub fn rounded_squares(v: Interval) -> Ends
     requires { IsSmall v }
     ensures value { result ≡ squares_of v }
@@ -32,6 +33,7 @@ pub fn rounded_squares(v: Interval) -> Ends
 }
 
 // `x / 2^exponent`, rounded up. (A division by a number that isn't known beforehand would take long.)
+#[inline(always)]
 fn part_up(x: u128, exponent: u32) -> u128
     requires small { x ≤ 17 * 2 ^ 64 }
     requires exponent { exponent ≤ 17 }
@@ -62,6 +64,7 @@ fn mean_with(exponent: u32, mean: Ends, squares: Ends) -> Ends
 }
 
 /// The mean after a sample with these squares, in units of 2^-64. A sample counts for one part in 2^exponent.
+#[inline(always)]
 pub fn mean_after(exponent: u32, mean: Ends, squares: Ends) -> Ends
     requires exponent_low { 16 ≤ exponent }
     requires exponent_high { exponent ≤ 17 }
@@ -81,6 +84,7 @@ pub fn mean_after(exponent: u32, mean: Ends, squares: Ends) -> Ends
 }
 
 /// By which a square is divided: the mean, and at least a quarter, in units of 2^-64.
+#[inline(always)]
 pub fn divisor(mean: Ends) -> Ends
     requires ordered { mean.lo ≤ mean.hi }
     requires small { mean.hi ≤ 17 * 2 ^ 64 }
@@ -96,6 +100,7 @@ pub fn divisor(mean: Ends) -> Ends
 }
 
 // A square of units of 2^-48 in units of 2^-112, so that its quotient by units of 2^-64 is in units of 2^-48.
+#[inline(always)]
 fn dividend(square: u64) -> u128
     ensures { result ≡ square * 2 ^ 64 }
 {
@@ -108,6 +113,7 @@ const TWO_TO_47: f64 = 140737488355328.0;
 
 // A whole number near `square * 2^64 / divisor`, by arithmetic in double precision. Nothing rests on how near: what its
 // product leaves of the dividend tells whether it is the quotient.
+#[inline(always)]
 fn guess(square: u64, divisor: u128) -> u64
     requires square_small { 2 * square ≤ 33 * 2 ^ 48 }
     requires divisor_small { divisor ≤ 17 * 2 ^ 64 }
@@ -123,6 +129,7 @@ fn guess(square: u64, divisor: u128) -> u64
 }
 
 // `square * 2^64 / divisor`, rounded down.
+#[inline(always)]
 fn quotient_down(square: u64, divisor: u128) -> u64
     requires square_small { 2 * square ≤ 33 * 2 ^ 48 }
     requires divisor_low { 2 ^ 62 ≤ divisor }
@@ -143,6 +150,7 @@ fn quotient_down(square: u64, divisor: u128) -> u64
 }
 
 // `square * 2^64 / divisor`, rounded up.
+#[inline(always)]
 fn quotient_up(square: u64, divisor: u128) -> u64
     requires square_small { 2 * square ≤ 33 * 2 ^ 48 }
     requires divisor_low { 2 ^ 62 ≤ divisor }
@@ -163,6 +171,7 @@ fn quotient_up(square: u64, divisor: u128) -> u64
 }
 
 /// The quotients of the squares and the divisor, in units of 2^-48, rounded down and up.
+#[inline(always)]
 pub fn quotients(squares: Ends, divisor: Ends) -> Ends
     requires ordered { squares.lo ≤ squares.hi }
     requires small { 2 * squares.hi ≤ 33 * 2 ^ 48 }

@@ -27,6 +27,7 @@ fn exponent_at(rate: Rate) -> u32
 }
 
 // The point of two ends.
+#[inline(always)]
 fn point_of(ends: Ends) -> Point
     requires ordered { ends.lo ≤ ends.hi }
     requires small { ends.hi ≤ 66 * 2 ^ 48 }
@@ -81,6 +82,7 @@ impl Front {
     ///
     /// The point holds the exact output of every run of voltages that lie in the intervals taken. Where the ends of
     /// the intervals are near the voltages, the radius is at most the stated bound.
+    #[inline(always)]
     pub fn push(&mut self, v: Interval) -> Point
         requires { IsSmall v }
         ensures exponent { exponent_of self.new ≡ exponent_of self.old }

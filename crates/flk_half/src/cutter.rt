@@ -92,6 +92,7 @@ impl Cutter {
     /// rounded down. The interval holds the value of every run within the intervals taken, and is at most `3 * 10^9 *
     /// delta + 3` wide where each of them is at most `2 * delta` wide. Both ends are from 0 to 10^10. Takes no
     /// memory.
+    #[inline(always)]
     pub fn push(&mut self, negative: bool, voltage: Interval) -> Option<Interval>
         requires low { unsigned_abs voltage.lo ≤ 5 * 2 ^ 48 }
         requires high { unsigned_abs voltage.hi ≤ 5 * 2 ^ 48 }
@@ -128,6 +129,7 @@ impl Cutter {
     }
 
     // Whether the half-period ends before a sample of this sign.
+    #[inline(always)]
     fn ends(&self, negative: bool) -> bool
         ensures { IsTrue result ↔ EndsBefore self.now negative }
     {

@@ -45,6 +45,7 @@ fn sections_of(gains: [Gain; 7]) -> [RowSection; 7]
 }
 
 // The same number in 64 bits.
+#[inline(always)]
 fn narrow(mid: i128) -> i64
     requires { unsigned_abs mid < 2 ^ 60 }
     ensures { result ≡ mid }
@@ -90,6 +91,7 @@ impl Cascade {
     }
 
     // Keeps the greatest radius so far, and the one that follows from it.
+    #[inline(always)]
     fn take_radius(&mut self, radius: i128)
         requires low { pos 0 ≤ℤ radius }
         requires high { radius ≤ℤ pos greatest_point }
@@ -112,6 +114,7 @@ impl Cascade {
     ///
     /// For exact inputs that lie in the points taken, the exact output of the sections in a row lies in the answer.
     /// With the coefficients of a lamp's design this is the lamp's weighted signal.
+    #[inline(always)]
     pub fn step(&mut self, p: Point) -> Point
         requires { IsPointInRange p }
         ensures whole { whole_in self.new ≡ whole_in self.old }

@@ -46,6 +46,7 @@ fn step_any(sections: &mut [RowSection], mid: i64) -> i64
 }
 
 // Takes the next input through the seven sections of a design.
+#[inline(always)]
 fn step_design(sections: &mut [RowSection; 7], mid: i64) -> i64
     requires mid { unsigned_abs mid < 2 ^ 60 }
     requires ready { ∥ AreReady sections.old mid ∥₁ }
@@ -67,6 +68,7 @@ fn step_design(sections: &mut [RowSection; 7], mid: i64) -> i64
 }
 
 /// Takes the next input through the sections, and answers the last output.
+#[inline(always)]
 pub(crate) fn step_in_row(sections: &mut [RowSection; 7], of_design: bool, mid: i64) -> i64
     requires mid { unsigned_abs mid < 2 ^ 60 }
     requires ready { ∥ AreReady sections.old mid ∥₁ }
