@@ -1,20 +1,63 @@
 #!/usr/bin/env python3
-"""Times `Front::push` of the crate flk_front, `Cascade::step` of flk_section, and `Smooth::step` and `Levels::end` of flk_stat, each beside a
-plain Rust program of the same integer arithmetic.
+"""Times `Scale::voltage` with `Cutter::push` of the crates flk_scale and flk_half, `Front::push` of flk_front, `Cascade::step` of flk_section, and
+`Smooth::step` and `Levels::end` of flk_stat, each beside a plain Rust program of the same integer arithmetic.
 
     bench/flickermeter.py [SAMPLES] [RUNS] [NAME..]
 
 Builds a small program over each crate in a temporary folder by `rt run`, which proves it. The programs take SAMPLES pseudo-random samples
-(10,000,000 where nothing is said) and print a checksum of all answers: the front takes voltages with a mean square of about 1, as intervals
-of about 5e-11 of nominal, the cascade of the lamp 230/50 takes points of up to 4 times nominal squared, the smoothing at 2400 samples a second
-points of up to a half, and the severity whole intervals of 1,440,000 levels of up to 1: as many as the samples make, at least one. Runs both
-programs RUNS times (5) in turn, compares what they print, and prints for each the least processor time, and the ratio. With names (`front`,
-`cascade`, `smooth`, `severity`) only those. Before that it times `whole_of`, which
-makes the bound of a whole cascade, for both lamps at both rates."""
+(10,000,000 where nothing is said) and print a checksum of all answers: the scale takes samples of a square wave whose half-periods have 24
+samples, the front takes voltages with a mean square of about 1, as intervals of about 5e-11 of nominal, the cascade of the lamp 230/50 takes
+points of up to 4 times nominal squared, the smoothing at 2400 samples a second points of up to a half, and the severity whole intervals of
+1,440,000 levels of up to 1: as many as the samples make, at least one. Runs both programs RUNS times (5) in turn, compares what they print, and
+prints for each the least processor time, and the ratio. With names (`voltage`, `front`, `cascade`, `smooth`, `severity`) only those. Before
+that it times `whole_of`, which makes the bound of a whole cascade, for both lamps at both rates."""
 import sys
 import tempfile
 
 import programs
+
+VOLTAGE = """//! Takes pseudo-random samples of a square wave through a scale and a cutter, and prints a checksum of all answers.
+#![tactic(auto)]
+
+use flk_cfg::read_cfg;
+use flk_half::Cutter;
+use flk_scale::{Scale, Supply, match_channel};
+use std::io;
+
+const CONFIGURATION: &str = "LAB,DAQ,1999\\r\\n1,1A,0D\\r\\n1,U,A,,V,0.0125,0,0,-32767,32767,1,1,P\\r\\n50\\r\\n1\\r\\n\\
+    2400,4800\\r\\n12/03/2021,09:15:00.000000\\r\\n12/03/2021,09:15:00.000000\\r\\nBINARY\\r\\n1\\r\\n";
+
+fn step(scale: &Scale, cutter: &mut Cutter, x: i32) -> u64 {
+    let Ok(v) = scale.voltage(x) else {
+        return 0;
+    };
+    match cutter.push(scale.negative(x), v) {
+        Some(half) => (half.lo as u64) ^ (half.hi as u64),
+        None => (v.lo as u64) ^ (v.hi as u64),
+    }
+}
+
+fn main(rt: HostRuntime) -> io::Result<()> {
+    let Ok(config) = read_cfg(rt.alloc(), CONFIGURATION.as_bytes()) else {
+        return Ok(());
+    };
+    let supply = Supply { nominal_mv: 230_000, uncertainty_uv: 6250 };
+    let Ok(scale) = match_channel(1, &supply, &config) else {
+        return Ok(());
+    };
+    let mut cutter = Cutter::new(24);
+    let mut state: u32 = 1;
+    let mut sum: u64 = 0;
+    for k in 0..%du32 {
+        state = state.wrapping_mul(1_664_525).wrapping_add(1_013_904_223);
+        let size = 13_000 + (state >> 18) as i32;
+        let x = if k / 24 %% 2 == 0 { size } else { -size };
+        sum = sum.wrapping_mul(31).wrapping_add(step(&scale, &mut cutter, x));
+    }
+    println!(rt; "{sum}")?;
+    Ok(())
+}
+"""
 
 FRONT = """//! Pushes pseudo-random voltages into a front, and prints a checksum of all points.
 #![tactic(auto)]
@@ -220,6 +263,7 @@ CALLS = 25
 
 # The crate that is timed, the program over it with the crates that it uses, the plain program, and the samples that it takes at a time.
 TIMED = [
+    ("flk_scale", VOLTAGE, ["flk_cfg", "flk_half", "flk_scale"], "voltage", 1),
     ("flk_front", FRONT, ["flk_num", "flk_front"], "front", 1),
     ("flk_section", CASCADE, ["flk_num", "flk_cert", "flk_design", "flk_front", "flk_section"], "cascade", 1),
     ("flk_stat", SMOOTH, ["flk_front", "flk_stat"], "smooth", 1),

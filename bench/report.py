@@ -29,7 +29,8 @@ WAVE = HALF + [-value for value in HALF]
 SHIFTS = [0, 32, 16]
 JOB = 'lamp = "230/50"\nnominal_mv = 230000\nuncertainty_uv = 6250\nchannels = [1, 2, 3]\ndmax = 7\n'
 SHORT = JOB + "run_in_s = 6\ninterval_s = 60\n"
-RATIO_GOAL, SPEED_GOAL = 1.25, 2.5
+SPEED_GOAL = 2.5
+GOALS = {"ASCII": "at most 1.25 of plain, 1.5 of fast", "BINARY": "at most 1.25 of plain and of fast, below 1 of double"}
 
 
 def draws(seed):
@@ -140,7 +141,7 @@ def main():
         print("%-6s %7s   %s   %s" % ("form", "workers", heads, pairs))
         one = {form: compare(folder, all_of, form, runs) for form in ("ASCII", "BINARY")}
         for form, line in one.items():
-            goal = " (goal of flicker/plain: at most %.2f)" % RATIO_GOAL if "flicker" in all_of else ""
+            goal = " (goals of flicker: %s)" % GOALS[form] if "flicker" in all_of else ""
             print("%-6s one worker, processor time: %s%s" % (form, ", ".join("%s %.2f" % ratio for ratio in line.items()), goal))
         peaks = {records: measured(folder, all_of, "short", "BINARY", 1, 1)}
         make(folder, records // 10)
