@@ -74,6 +74,9 @@ high_start l s r u e f g =
 
 -- ---- a scale as it is made: d is the divisor
 
+pub reach_small : (s t : ℤ) (r : ℕ) → unsigned_abs s < 2 ^ 124 + 2 ^ 123 → r ≤ 10 ^ 25 → t ≡ pos r → unsigned_abs (s +ℤ t) < 2 ^ 127
+reach_small s t r small high e = omega (arith, ints)
+
 pub size_made : (f a : ℤ) (m : ℕ) → f ≡ a → unsigned_abs a ≤ m → unsigned_abs f ≤ m
 size_made f a m same small = rw same small
 

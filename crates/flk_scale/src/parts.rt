@@ -59,7 +59,6 @@ pub fn scaled(v: i128, divisor: u128) -> Parts
 }
 
 // How many divisors a rest has whole.
-#[inline(always)]
 fn whole_divisors(rest: u128, divisor: u128) -> u8
     requires small { rest < 3 * divisor }
     requires divisor { divisor < 2 ^ 90 }
@@ -71,7 +70,6 @@ fn whole_divisors(rest: u128, divisor: u128) -> u8
 }
 
 // How many divisors a rest needs.
-#[inline(always)]
 fn needed_divisors(rest: u128, divisor: u128) -> u8
     requires small { rest < 3 * divisor }
     requires divisor { divisor < 2 ^ 90 }
@@ -83,7 +81,6 @@ fn needed_divisors(rest: u128, divisor: u128) -> u8
 }
 
 /// The sum of two quotients, rounded down.
-#[inline(always)]
 pub fn sum_down(p: Parts, q: Parts, divisor: u128) -> i128
     requires p { unsigned_abs p.quotient ≤ 2 ^ 110 }
     requires q { unsigned_abs q.quotient ≤ 2 ^ 110 }
@@ -96,7 +93,6 @@ pub fn sum_down(p: Parts, q: Parts, divisor: u128) -> i128
 }
 
 /// The sum of two quotients, rounded up.
-#[inline(always)]
 pub fn sum_up(p: Parts, q: Parts, divisor: u128) -> i128
     requires p { unsigned_abs p.quotient ≤ 2 ^ 110 }
     requires q { unsigned_abs q.quotient ≤ 2 ^ 110 }

@@ -6,13 +6,13 @@ ghost use Rattle.flk_exact.specs.Fraction.{Fraction, ◌-ℚ◌, units};
 ghost use Rattle.flk_exact.specs.Run.{IsAdmitted, CoversDoubt};
 ghost use Rattle.flk_num.specs.Interval.{Holds, IsNarrow, IsNear, IsSmall};
 ghost use Rattle.flk_scale.specs.Unit.{microvolts};
-ghost use Rattle.flk_scale.specs.Parts.{dividend};
+ghost use Rattle.flk_scale.specs.Parts.{dividend, IsShare};
 ghost use Rattle.flk_scale.specs.Slope.{divisor_of, step_dividend};
 ghost use Rattle.flk_scale.specs.Samples.{AreSamplesBetween};
 
-use crate::parts::{Parts, scaled, sum_down, sum_up};
+use crate::parts::{Parts, scaled};
 use crate::samples::{Samples, negated, samples_between};
-use crate::slope::Slope;
+use crate::slope::{Slope, share_of};
 use crate::supply::Supply;
 use crate::unit::{VoltageUnit, unit_of};
 use flk_cfg::Analog;
@@ -44,6 +44,9 @@ pub struct Scale {
     // `2^48` times the voltage of the least sample of 32 bits, less and with the uncertainty, over nominal.
     low: Parts,
     high: Parts,
+    // The shares of their rests.
+    low_share: u64,
+    high_share: u64,
     // The samples that are within range, and those that are negative.
     within: Samples,
     negative: Samples,
@@ -59,6 +62,8 @@ pub struct Scale {
         *ℤ pos (2 ^ 48) },
     ghost low_rest: { low.rest < divisor_of slope },
     ghost high_rest: { high.rest < divisor_of slope },
+    ghost low_share_is: { IsShare low.rest (divisor_of slope) low_share },
+    ghost high_share_is: { IsShare high.rest (divisor_of slope) high_share },
     ghost low_small: { unsigned_abs low.quotient ≤ 2 ^ 110 },
     ghost high_small: { unsigned_abs high.quotient ≤ 2 ^ 110 },
     ghost within_is: { AreSamplesBetween factor offset (neg_ℤ (pos (4 * divisor_of slope)))
@@ -138,14 +143,18 @@ impl Scale {
         let reach = signed(unit.uncertainty(supply));
         let limit = signed(4 * divisor);
         let start = start_of(factor, offset);
+        let low = scaled(start - reach, divisor);
+        let high = scaled(start + reach, divisor);
         Scale {
             supply,
             unit,
             factor,
             offset,
             slope: Slope::new(factor, divisor),
-            low: scaled(start - reach, divisor),
-            high: scaled(start + reach, divisor),
+            low,
+            high,
+            low_share: share_of(low.rest, divisor),
+            high_share: share_of(high.rest, divisor),
             within: samples_between(factor, offset, negated(limit), limit),
             negative: samples_between(factor, offset, LEAST, -1),
         }
@@ -196,11 +205,10 @@ impl Scale {
     fn interval(&self, x: i32) -> Interval
         ensures { IsVoltageInterval (nominal_of self.now) (uncertainty_of self.now) (voltage_of self.now x) result }
     {
-        let divisor = self.slope.divisor();
-        let product = self.slope.at(index_of(x));
+        let index = index_of(x);
         Interval {
-            lo: sum_down(product, self.low, divisor),
-            hi: sum_up(product, self.high, divisor),
+            lo: self.slope.sum_down(index, &self.low, self.low_share),
+            hi: self.slope.sum_up(index, &self.high, self.high_share),
         }
     }
 }

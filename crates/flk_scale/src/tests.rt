@@ -21,6 +21,12 @@ const LOW: Supply = Supply {
     uncertainty_uv: 10_000,
 };
 
+// 10 V and a 128th of it.
+const TEN: Supply = Supply {
+    nominal_mv: 10_000,
+    uncertainty_uv: 78_125,
+};
+
 // 1000 V and a millivolt.
 const HIGH: Supply = Supply {
     nominal_mv: 1_000_000,
@@ -110,6 +116,38 @@ fn kilovolts(rt: HostRuntime) -> Result<(), Fail> {
         (1, -2_147_483_648, Some((-281_474_978, 281_474_977, true))),
     ] {
         let answered = answer(rt.alloc(), b"kV", (a, 0), HIGH, x)?;
+        assert_eq!(rt; answered, expected, "{a} {x}");
+    }
+    Ok(())
+}
+
+// Ends that are whole numbers of units of 2^-48, and the two next to them. A tenth of a volt's share is no whole number
+// of units of 2^-64, and that of a 1024th of 10 V is 0.
+#[test]
+fn whole_ends(rt: HostRuntime) -> Result<(), Fail> {
+    for (a, x, expected) in [
+        (
+            TEN_THOUSAND / 10_000,
+            10,
+            Some((279_275_953_455_104, 283_673_999_966_208, false)),
+        ),
+        (
+            TEN_THOUSAND / 10_000,
+            9,
+            Some((251_128_455_784_038, 255_526_502_295_143, false)),
+        ),
+        (
+            9_765_625_000_000_000_000_000,
+            512,
+            Some((138_538_465_099_776, 142_936_511_610_880, false)),
+        ),
+        (
+            9_765_625_000_000_000_000_000,
+            -512,
+            Some((-142_936_511_610_880, -138_538_465_099_776, true)),
+        ),
+    ] {
+        let answered = answer(rt.alloc(), b"V", (a, 0), TEN, x)?;
         assert_eq!(rt; answered, expected, "{a} {x}");
     }
     Ok(())

@@ -5,7 +5,7 @@ use Rattle.flk_scale.specs.Unit.{microvolts}
 use Rattle.flk_scale.specs.Parts.{dividend}
 use Rattle.flk_scale.specs.Slope.{divisor_of}
 use Rattle.flk_scale.specs.Samples.{AreSamplesBetween}
-use Rattle.flk_scale.proofs.ScaleLemmas.{size_made, nominal_made, low_made, high_made, within_made}
+use Rattle.flk_scale.proofs.ScaleLemmas.{reach_small, size_made, nominal_made, low_made, high_made, within_made}
 use Rattle.flk_scale.proofs.scale.Scale.made.Goals as goal
 
 pub invariant_of-result-clause-nominal_is : goal.invariant_of-result-clause-nominal_is
@@ -30,8 +30,8 @@ invariant_of-result-clause-low_is c =
     let fits_s : FitsSigned w128 s = search rules in
     let fits_t : FitsSigned w128 t = search rules in
     let fits : FitsSigned w128 (s -ℤ t) = fits_signed_from_abs w128 _ (omega (arith, ints, c.start_of-start.ensures.small, c.uncertainty.ensures.high, reach)) in
-    let parts : dividend c.scaled.result c.nominal-divisor.result ≡ (s -ℤ t) *ℤ pos (2 ^ 48) = simp to_z-of_z at c.scaled.ensures.parts in
-    low_made (to_z w128 (of_z w128 c.args.factor)) (to_z w128 (of_z w128 c.args.offset)) c.args.factor c.args.offset s t c.scaled.result (divisor_of c.new.result) c.nominal-divisor.result c.uncertainty.result (microvolts c.args.unit) (c.args.supply.uncertainty_uv * 10 ^ 24) is_a is_b c.new.ensures.divisor start reach c.uncertainty.ensures.value parts
+    let parts : dividend c.scaled-low.result c.nominal-divisor.result ≡ (s -ℤ t) *ℤ pos (2 ^ 48) = simp to_z-of_z at c.scaled-low.ensures.parts in
+    low_made (to_z w128 (of_z w128 c.args.factor)) (to_z w128 (of_z w128 c.args.offset)) c.args.factor c.args.offset s t c.scaled-low.result (divisor_of c.new.result) c.nominal-divisor.result c.uncertainty.result (microvolts c.args.unit) (c.args.supply.uncertainty_uv * 10 ^ 24) is_a is_b c.new.ensures.divisor start reach c.uncertainty.ensures.value parts
 
 pub invariant_of-result-clause-high_is : goal.invariant_of-result-clause-high_is
 invariant_of-result-clause-high_is c =
@@ -45,9 +45,9 @@ invariant_of-result-clause-high_is c =
     let reach : t ≡ pos c.uncertainty.result = search rules in
     let fits_s : FitsSigned w128 s = search rules in
     let fits_t : FitsSigned w128 t = search rules in
-    let fits : FitsSigned w128 (s +ℤ t) = fits_signed_from_abs w128 _ (omega (arith, ints, c.start_of-start.ensures.small, c.uncertainty.ensures.high, reach)) in
-    let parts : dividend c.scaled-2.result c.nominal-divisor.result ≡ (s +ℤ t) *ℤ pos (2 ^ 48) = simp to_z-of_z at c.scaled-2.ensures.parts in
-    high_made (to_z w128 (of_z w128 c.args.factor)) (to_z w128 (of_z w128 c.args.offset)) c.args.factor c.args.offset s t c.scaled-2.result (divisor_of c.new.result) c.nominal-divisor.result c.uncertainty.result (microvolts c.args.unit) (c.args.supply.uncertainty_uv * 10 ^ 24) is_a is_b c.new.ensures.divisor start reach c.uncertainty.ensures.value parts
+    let fits : FitsSigned w128 (s +ℤ t) = fits_signed_from_abs w128 _ (reach_small s t c.uncertainty.result c.start_of-start.ensures.small c.uncertainty.ensures.high reach) in
+    let parts : dividend c.scaled-high.result c.nominal-divisor.result ≡ (s +ℤ t) *ℤ pos (2 ^ 48) = simp to_z-of_z at c.scaled-high.ensures.parts in
+    high_made (to_z w128 (of_z w128 c.args.factor)) (to_z w128 (of_z w128 c.args.offset)) c.args.factor c.args.offset s t c.scaled-high.result (divisor_of c.new.result) c.nominal-divisor.result c.uncertainty.result (microvolts c.args.unit) (c.args.supply.uncertainty_uv * 10 ^ 24) is_a is_b c.new.ensures.divisor start reach c.uncertainty.ensures.value parts
 
 pub invariant_of-result-clause-within_is : goal.invariant_of-result-clause-within_is
 invariant_of-result-clause-within_is c =

@@ -33,6 +33,9 @@ returns-clause-within c = λ over.
     (range.0 (among.0 c.if-not-has.false))
     (omega (arith, over))
 
+pub returns-clause-interval : goal.returns-clause-interval
+returns-clause-interval c = search rules
+
 pub returns-clause-holds : goal.returns-clause-holds
 returns-clause-holds c u near =
     let s = c.args.self.now in
