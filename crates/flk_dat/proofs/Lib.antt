@@ -1,6 +1,7 @@
 pub mod SampleJudges
 pub mod Elements
 pub mod RowLemmas
+pub mod RunLemmas
 pub mod ColumnLemmas
 pub mod BlockLemmas
 pub mod Sequences

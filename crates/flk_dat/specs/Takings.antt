@@ -38,6 +38,11 @@ pub record Taking (old new : Reader) (before after : Rows) (piece : List ℕ) (n
       → after.room ≤ length after.records
       → EndsRecord (layout old) (length (given ++ added before after) - 1) (taken ++ take n piece)
 
+-- some were taken
+pub record TakesSome (old new : Reader) (before after : Rows) (piece : List ℕ) (n : ℕ) : Type 0 where
+  pub taking : Taking old new before after piece n
+  pub some : 0 < n
+
 pub record TakesAll (old new : Reader) (before after : Rows) (piece : List ℕ) (n : ℕ) : Type 0 where
   pub taking : Taking old new before after piece n
   pub whole : length after.records < after.room → n ≡ length piece

@@ -107,24 +107,25 @@ fn value_or_missing(form: Form, bytes: &[u8], i: usize, selected: bool) -> Optio
 /// missing.
 #[inline(always)]
 fn read_values(
-    channels: &Channels,
+    form: Form,
+    selected: &[bool],
     bytes: &[u8],
-    columns: &mut Vec<Column<i32>>,
+    columns: &mut [Column<i32>],
     row: usize,
 ) -> Result<(), usize>
-    requires there { size_of_record channels.now.form (length channels.now.selected.items) 0 ≤ length bytes.now }
-    requires same { length columns.old.items ≡ length channels.now.selected.items }
-    requires places { HavePlace row columns.old.items }
-    ensures changed { ChangesPlace row (pos 0) columns.old.items columns.new.items }
-    ensures values { OnOk result ((i : ℕ) → i < length channels.now.selected.items
-        → slice_index_or (row_in row (pos 0) columns.new.items) i (pos 0) ≡ value_of channels.now.form bytes.now i) }
-    ensures present { OnOk result ((i : ℕ) → i < length channels.now.selected.items
-        → slice_index_or channels.now.selected.items i false ≡ true
-        → value_of channels.now.form bytes.now i ≢ missing_value channels.now.form) }
-    ensures missing { IfErr result (λ i. IsFirstMissing channels.now.form channels.now.selected.items bytes.now i) }
+    requires few { length selected.now ≤ 256 }
+    requires there { size_of_record form (length selected.now) 0 ≤ length bytes.now }
+    requires same { length columns.old ≡ length selected.now }
+    requires places { HavePlace row columns.old }
+    ensures changed { ChangesPlace row (pos 0) columns.old columns.new }
+    ensures values { OnOk result ((i : ℕ) → i < length selected.now
+        → slice_index_or (row_in row (pos 0) columns.new) i (pos 0) ≡ value_of form bytes.now i) }
+    ensures present { OnOk result ((i : ℕ) → i < length selected.now
+        → slice_index_or selected.now i false ≡ true → value_of form bytes.now i ≢ missing_value form) }
+    ensures missing { IfErr result (λ i. IsFirstMissing form selected.now bytes.now i) }
 {
-    for i in 0..channels.selected.len() {
-        match value_or_missing(channels.form, bytes, i, channels.selected[i]) {
+    for i in 0..selected.len() {
+        match value_or_missing(form, bytes, i, selected[i]) {
             Some(value) => columns[i].put(row, value),
             None => return Err(i),
         }
@@ -148,9 +149,10 @@ fn read_bits(form: Form, bytes: &[u8], analog: usize, columns: &mut Vec<Column<b
     }
 }
 
-/// Reads the record with which the bytes begin: its front, and its values into a row of the columns.
+/// Reads the record of this form with which the bytes begin: its front, and its values into a row of the columns.
 #[inline(always)]
 pub fn read_binary(
+    form: Form,
     channels: &Channels,
     before: Option<u32>,
     bytes: &[u8],
@@ -158,16 +160,14 @@ pub fn read_binary(
     row: usize,
 ) -> Result<Head, Fault>
     requires row { HasRow channels.now row columns.old }
-    requires whole { size_of_record channels.now.form (length channels.now.selected.items) channels.now.digital
-        ≤ length bytes.now }
+    requires whole { size_of_record form (length channels.now.selected.items) channels.now.digital ≤ length bytes.now }
     ensures changed { ChangesRow row columns.old columns.new }
     ensures values { IfOk result (λ h.
-        IsBinary channels.now.form (length channels.now.selected.items) channels.now.digital bytes.now
-        (headed h row columns.new)
+        IsBinary form (length channels.now.selected.items) channels.now.digital bytes.now (headed h row columns.new)
         × Follows before h.number
-        × IsPresent channels.now.form channels.now.selected.items (headed h row columns.new)) }
+        × IsPresent form channels.now.selected.items (headed h row columns.new)) }
     ensures fault { IfErr result
-        (λ f. WholeFault channels.now.form channels.now.selected.items before bytes.now f.field f.kind) }
+        (λ f. WholeFault form channels.now.selected.items before bytes.now f.field f.kind) }
 {
     let number = number_at(bytes);
     if !follows(before, number) {
@@ -176,14 +176,14 @@ pub fn read_binary(
             kind: Kind::Order,
         });
     }
-    if let Err(channel) = read_values(channels, bytes, &mut columns.analog, row) {
+    if let Err(channel) = read_values(form, &channels.selected, bytes, &mut columns.analog, row) {
         return Err(Fault {
             field: channel as u32 + 3,
             kind: Kind::Missing,
         });
     }
     read_bits(
-        channels.form,
+        form,
         bytes,
         channels.selected.len(),
         &mut columns.digital,

@@ -12,7 +12,7 @@ use crate::column::put_row;
 use crate::columns::Columns;
 use crate::kind::Fault;
 use crate::record::read_record;
-use flk_cfg::Config;
+use flk_cfg::{Config, Form};
 use flk_num::crosses_threads;
 use std::alloc::{AllocError, Global};
 use std::marker::Model;
@@ -143,15 +143,17 @@ impl Block {
         self.rows = row + 1;
     }
 
-    /// Reads a record and puts it at the end: a line, which may have a CR at its end, or the binary record with which
-    /// the bytes begin. It answers the record's number.
+    /// Reads a record of the channels' form and puts it at the end: a line, which may have a CR at its end, or the
+    /// binary record with which the bytes begin. It answers the record's number.
     #[inline(always)]
     pub(crate) fn read(
         &mut self,
+        form: Form,
         channels: &Channels,
         before: Option<u32>,
         bytes: &[u8],
     ) -> Result<u32, Fault>
+        requires form { form ≡ channels.now.form }
         requires room { length self.old.records < self.old.room }
         requires columns { HasColumns channels.now self.old }
         requires whole { channels.now.form ≢ forms.Ascii
@@ -161,7 +163,7 @@ impl Block {
             (λ f. (self.new ≡ self.old) × FaultOf channels.now.form channels.now before bytes.now f.field f.kind) }
     {
         let row = self.rows;
-        let head = read_record(channels, before, bytes, &mut self.columns, row)?;
+        let head = read_record(form, channels, before, bytes, &mut self.columns, row)?;
         self.columns.numbers.put(row, head.number);
         self.columns.stamps.put(row, head.stamp);
         self.rows = row + 1;

@@ -33,13 +33,13 @@ pub fn read_held(
         × FaultOf channels.now.form channels.now before (rest.old ++ bytes.now) f.field f.kind) }
 {
     if rest.as_slice().is_empty() {
-        return out.read(channels, before, bytes);
+        return out.read(channels.form, channels, before, bytes);
     }
     match channels.form {
         Form::Ascii => rest.hold_line(bytes)?,
         Form::Binary => rest.hold(bytes),
     }
-    let number = out.read(channels, before, rest.as_slice());
+    let number = out.read(channels.form, channels, before, rest.as_slice());
     rest.clear();
     number
 }

@@ -50,7 +50,7 @@ pub struct Reader {
 
 impl Reader {
     ghost use Rattle.flk_dat.specs.States.{layout, kept_fault, Stands, FitsBlock};
-    ghost use Rattle.flk_dat.specs.Takings.{Takes, TakesAll, Stops, Gives, Ends, Falls};
+    ghost use Rattle.flk_dat.specs.Takings.{Takes, TakesSome, TakesAll, Stops, Gives, Ends, Falls};
 
     /// A reader of the data of this configuration that has taken nothing. `selected` has the numbers of the analog
     /// channels, from 1, in which a missing value is refused; a number of no channel selects nothing.
@@ -171,15 +171,15 @@ impl Reader {
         Ok(at)
     }
 
-    /// Takes bytes up to the end of the record that is due, or all bytes.
+    /// Takes bytes up to the end of the record that is due or a later one, or all bytes.
     #[inline(always)]
     fn step(&mut self, piece: &[u8], out: &mut Block) -> Result<usize, Fault>
         requires some { 0 < length piece.now }
         requires fits { FitsBlock self.old out.old }
         requires room { length out.old.records < out.old.room }
-        ensures taken { MatchResult result (λ n. Takes self.old self.new out.old out.new piece.now n)
+        ensures taken { MatchResult result (λ n. TakesSome self.old self.new out.old out.new piece.now n)
             (λ f. Stops self.old self.new out.old out.new piece.now f) }
-        ensures nothing { OnErr result (out.new ≡ out.old) }
+        ensures room { OnErr result (length out.new.records < out.new.room) }
     {
         if self.given == self.records {
             return self.take_tail(piece);
@@ -242,9 +242,52 @@ impl Reader {
         }
     }
 
-    /// Takes bytes of a binary record.
+    /// Takes bytes of binary records: of those that are whole in the piece, or of the one that is due.
     #[inline(always)]
     fn take_binary(&mut self, piece: &[u8], out: &mut Block) -> Result<usize, Fault>
+        requires some { 0 < length piece.now }
+        requires form { self.old.channels.form ≡ forms.Binary }
+        requires due { self.old.given < self.old.records }
+        requires fits { FitsBlock self.old out.old }
+        requires room { length out.old.records < out.old.room }
+        ensures taken { MatchResult result (λ n. TakesSome self.old self.new out.old out.new piece.now n)
+            (λ f. Stops self.old self.new out.old out.new piece.now f) }
+        ensures room { OnErr result (length out.new.records < out.new.room) }
+    {
+        if self.rest.as_slice().is_empty() && self.channels.size <= piece.len() {
+            self.take_whole(piece, out)
+        } else {
+            self.take_due(piece, out)
+        }
+    }
+
+    /// Takes the binary records that are whole in the piece, one at least, as many as are due and fit.
+    fn take_whole(&mut self, piece: &[u8], out: &mut Block) -> Result<usize, Fault>
+        requires form { self.old.channels.form ≡ forms.Binary }
+        requires rest { self.old.rest ≡ [] }
+        requires whole { self.old.channels.size ≤ length piece.now }
+        requires due { self.old.given < self.old.records }
+        requires fits { FitsBlock self.old out.old }
+        requires room { length out.old.records < out.old.room }
+        ensures taken { MatchResult result (λ n. TakesSome self.old self.new out.old out.new piece.now n)
+            (λ f. Stops self.old self.new out.old out.new piece.now f) }
+        ensures room { OnErr result (length out.new.records < out.new.room) }
+    {
+        let size = self.channels.size;
+        let mut at = 0;
+        loop {
+            let bytes = &piece[at..at + size];
+            let number = out.read(Form::Binary, &self.channels, self.before, bytes)?;
+            self.count(number, Tail::new());
+            at += size;
+            if piece.len() - at < size || self.given == self.records || out.rows() == out.room() {
+                return Ok(at);
+            }
+        }
+    }
+
+    /// Takes bytes of the binary record that is due, of which some may be held.
+    fn take_due(&mut self, piece: &[u8], out: &mut Block) -> Result<usize, Fault>
         requires some { 0 < length piece.now }
         requires form { self.old.channels.form ≢ forms.Ascii }
         requires due { self.old.given < self.old.records }
@@ -313,7 +356,12 @@ impl Reader {
         if are_spaces(self.rest.as_slice()) {
             return Err(SHORT);
         }
-        match out.read(&self.channels, self.before, self.rest.as_slice()) {
+        match out.read(
+            Form::Ascii,
+            &self.channels,
+            self.before,
+            self.rest.as_slice(),
+        ) {
             Ok(number) => {
                 self.rest.clear();
                 self.count(number, Tail::new());

@@ -6,7 +6,7 @@ use Rattle.flk_dat.proofs.binary.read_values.Given as goal
 
 abbrev pub invariant-loop-i : goal.invariant-loop-i
 invariant-loop-i l = record {
-  changed : ChangesPlace l.row (pos 0) l.fn.columns.items l.columns.items;
-  values : (k : ℕ) → k < l.i → get_or (row_in l.row (pos 0) l.columns.items) k (pos 0) ≡ value_of l.channels.form l.bytes k;
-  present : (k : ℕ) → k < l.i → get_or l.channels.selected.items k false ≡ true → value_of l.channels.form l.bytes k ≢ missing_value l.channels.form;
+  changed : ChangesPlace l.row (pos 0) l.fn.columns l.columns;
+  values : (k : ℕ) → k < l.i → get_or (row_in l.row (pos 0) l.columns) k (pos 0) ≡ value_of l.form l.bytes k;
+  present : (k : ℕ) → k < l.i → get_or l.selected k false ≡ true → value_of l.form l.bytes k ≢ missing_value l.form;
 }
