@@ -1,5 +1,5 @@
 -- What a phase becomes by samples.
-use Rattle.std.proofs.Common.{◌≡◌, ℕ, ◌+◌, ◌<◌, set, drop, take-add, append-nil, ◌≤◌, List, [], ◌∷◌, ◌++◌, ◌-◌, length, get_or, take, reverse, ℤ, pos, true, false, Option, None, Some, IfNone, IfSome, refl, sym, subst, ap, ◌∙◌, arith, ⊎_elim, length-append, length-take, length-drop, length-take-le, append_assoc}
+use Rattle.std.proofs.Common.{◌≡◌, ℕ, ◌+◌, ◌<◌, set, drop, take-add, ◌≤◌, List, [], ◌∷◌, ◌++◌, ◌-◌, length, get_or, take, reverse, ℤ, pos, true, false, Option, None, Some, IfNone, IfSome, refl, sym, subst, ap, ◌∙◌, arith, ⊎_elim, length-append, length-take, length-drop, length-take-le, append_assoc}
 use borrow.Author.Count.{below_more}
 use Rattle.std.specs.List.{All}
 use Rattle.std.proofs.lemmas.Bool.{cases_lt}

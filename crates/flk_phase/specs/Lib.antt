@@ -5,3 +5,5 @@ pub mod Taking
 pub mod Halves
 pub mod Meter
 pub mod Severities
+-- of some of the phases at a block
+pub mod Parts

@@ -2,8 +2,8 @@
 //! severities.
 //!
 //! A [`Phase`] takes the samples of one channel block by block, up to the first one over range, and answers the
-//! [`PhaseResult`] of them all. [`work`] gives one block to all phases, in threads. Neither takes memory: room for
-//! samples is made before, by [`Phase::reserve`].
+//! [`PhaseResult`] of them all. [`work`] gives one block to all phases, in threads, and [`work_beside`] does so beside
+//! another call. None of these takes memory: room for samples is made before, by [`Phase::reserve`].
 //!
 //! A phase has three parts. `halves` cuts the samples into half-periods and tells which windows are steady (IEC
 //! 61000-3-3), `meter` is the flickermeter of IEC 61000-4-15 up to its block 4, and `severities` judges its levels
@@ -27,4 +27,4 @@ pub use flk_change::OutOfMemory;
 pub use flk_result::{PhaseResult, Setup};
 pub use laws::phase_with_none_over_range_took_all;
 pub use phase::Phase;
-pub use workers::{Gate, work};
+pub use workers::{Gate, work, work_beside};

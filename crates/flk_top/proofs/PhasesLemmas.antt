@@ -26,7 +26,7 @@ use Rattle.flk_result.specs.Widths.{KeepsWidths}
 use Rattle.flk_section.specs.declared.whole.Whole.{Whole}
 use Rattle.flk_section.specs.Whole.{numbers_of}
 use Rattle.flk_phase.specs.Phase.{conditions_of, scale_of, channel_of, over_of, taken_of, column_of as column, told_by, IsMadeFor, Stands}
-use Rattle.flk_phase.specs.Taking.{Takes}
+use Rattle.flk_phase.specs.Taking.{Takes, MayTake}
 use Rattle.flk_phase.specs.declared.phase.Phase.{Phase}
 use Rattle.flk_top.specs.Matching.{sample_of, recorded_voltages}
 use Rattle.flk_top.specs.ReportDue.{setup_of, IsOverAt, AreWithinRangeBefore, AreWithinRange, IsFirstOverOf, IsResultOf, AreResults}
@@ -466,6 +466,18 @@ can_channel phases b can i d less =
 
 pub can_few : (phases : List Phase) (b : Rows) → CanWork phases b → (i : ℕ) (d : Phase) → i < length phases → taken_of (slice_index_or phases i d) + length b.records < 2 ^ 32
 can_few phases b can i d less = omega (arith, (can.worked.have_columns i d less).taken, can.few)
+
+-- the phases may take the block once there is room for it
+pub can_take : (phases mid : List Phase) (b : Rows) (n : ℕ) → CanWork phases b → AreReserved n phases mid → n ≡ length b.records
+    → (i : ℕ) (d : Phase) → i < length mid → MayTake (slice_index_or mid i d) b
+can_take phases mid b n can kept rows i d less =
+    let there : i < length phases = omega (arith, less, kept.count) in
+    let one = kept.each i d there in
+    record {
+      channel = omega (arith, one.same.alike.channel, can_channel phases b can i d there);
+      room = omega (arith, rows, one.spare);
+      few = omega (arith, one.same.taken, can_few phases b can i d there);
+    }
 
 -- a block of which no phase finds a sample over range, or one finds it
 pub block_worked : (old new : List Phase) (more : List DataRecord) (o : Option (ℕ × ℕ)) → TakeRecords old new more → IsFirstOverOfPhases new (length new) o → AreWorked old new more o

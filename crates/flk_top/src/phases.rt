@@ -18,7 +18,7 @@ use flk_cfg::Config;
 use flk_dat::Block;
 use flk_io::OutOfMemory;
 use flk_job::Job;
-use flk_phase::{Gate, Phase, PhaseResult, Setup, work};
+use flk_phase::{Gate, Phase, PhaseResult, Setup, work, work_beside};
 use flk_report::interval_count;
 use flk_scale::match_channel;
 use flk_section::Whole;
@@ -149,6 +149,30 @@ pub fn work_block<R: Threads + Sync, G: Gate + Sync>(
 {
     take_block(rt, phases, block, workers, gate)?;
     Ok(first_over(phases))
+}
+
+/// As [`work_block`], and meanwhile `beside` is called once, in this thread; also where no memory is found. The parts
+/// are worked in threads that this one starts.
+pub fn work_block_beside<R: Threads + Sync, G: Gate + Sync, X, B: FnMut() -> X>(
+    rt: &R,
+    phases: &mut [Phase],
+    block: &Block,
+    workers: usize,
+    gate: &G,
+    beside: &mut B,
+) -> (Result<Option<(u32, usize)>, OutOfMemory>, X)
+    requires workers { (1 ≤ workers) × (workers ≤ 16) }
+    requires ready { CanWork phases.old block.now }
+    requires gate { (i : ℕ) → i < length phases.old → G.admits gate.now i ≡ true }
+    requires beside { B.pre beside.old }
+    ensures worked { IfOk result.0 (AreWorked phases.old phases.new block.now.records) }
+    ensures beside { B.step beside.old result.1 beside.new }
+{
+    if reserve_all(phases, block.rows()).is_err() {
+        return (Err(OutOfMemory), beside());
+    }
+    let answer = work_beside(rt, phases, block, workers, gate, beside);
+    (Ok(first_over(phases)), answer)
 }
 
 /// The results of phases that have taken all records of a recording, in their order.

@@ -33,7 +33,7 @@ use crate::command::{JOB_WORD, REPORT_CONFIGURATION_WORD, REPORT_DATA_WORD, Repo
 use crate::configuration::read_configuration;
 use crate::faults::{data_reply, lamp_reply, match_reply, range_reply, read_reply};
 use crate::job::read_job_file;
-use crate::phases::{phases_of, results_of, work_block};
+use crate::phases::{phases_of, results_of, work_block, work_block_beside};
 use crate::reply::{Reply, Status};
 use flk_cfg::Config;
 use flk_dat::Block;
@@ -44,7 +44,7 @@ use flk_phase::{Gate, Phase};
 use flk_report::{Verdict, overall, report_text};
 use flk_section::Whole;
 use std::alloc::Global;
-use std::thread::{Threads, join_mut};
+use std::thread::Threads;
 
 fn status_of(verdict: Verdict) -> Status
     ensures number { status_number result ≡ verdict_status verdict }
@@ -153,13 +153,12 @@ fn work_and_read<R: Threads + Sync, F: Shelf, G: Gate + Sync>(
         let over = work_block(rt, phases, block, workers, gate);
         return (over, blocks.next(shelf, name));
     }
-    join_mut(
+    work_block_beside(
         rt,
-        &mut || -> Result<Option<(u32, usize)>, OutOfMemory>
-            requires workers { (1 ≤ workers) × (workers ≤ 16) }
-            requires ready { CanWork phases.now.items block.now }
-            requires gate { (i : ℕ) → i < length phases.now.items → G.admits gate.now i ≡ true }
-        { work_block(rt, phases, block, workers, gate) },
+        phases,
+        block,
+        workers,
+        gate,
         &mut || -> Result<Progress, Failed>
             requires { (l : Layout) × (bytes : List ℕ) × (rs : List DataRecord) × HasRead l blocks.now bytes rs }
             ensures { ReadsOn name.entry.now blocks.entry.now blocks.exit.now

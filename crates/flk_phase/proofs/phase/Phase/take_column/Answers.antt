@@ -1,4 +1,4 @@
-use Rattle.std.proofs.Common.{arith, ◌≡◌, ◌+◌, ◌-◌, ◌≤◌, ◌<◌, ℕ, length, take, drop, ◌∙◌}
+use Rattle.std.proofs.Common.{arith, ◌≡◌, ◌+◌, ◌-◌, ◌<◌, length, take, drop}
 use Rattle.flk_phase.specs.Phase.{scale_of}
 use Rattle.flk_phase.specs.Taking.{HasTaken, IsCountWithin}
 use Rattle.flk_phase.proofs.TakingLemmas.{part_taken, part_stopped, took_all, alike_twice}

@@ -1,4 +1,4 @@
-use Rattle.std.proofs.Common.{◌≡◌, arith, length-take-le}
+use Rattle.std.proofs.Common.{arith, length-take-le}
 use Rattle.flk_phase.proofs.phase.Phase.take_part.Goals as goal
 
 pub returns-clause-has : goal.returns-clause-has

@@ -1,4 +1,4 @@
-use Rattle.std.proofs.Common.{rules, arith, ◌≡◌, ◌≤◌, List, length, get_or, refl, ◌∙◌}
+use Rattle.std.proofs.Common.{arith, ◌≤◌, length, refl, ◌∙◌}
 use Rattle.flk_phase.proofs.TakingLemmas.{waiting_less, none_waits, alike_twice}
 use Rattle.flk_phase.proofs.phase.Phase.weigh_part.Goals as goal
 
