@@ -33,7 +33,7 @@ fn step(scale: &Scale, cutter: &mut Cutter, x: i32) -> u64 {
     };
     match cutter.push(scale.negative(x), v) {
         Some(half) => (half.lo as u64) ^ (half.hi as u64),
-        None => (v.lo as u64) ^ (v.hi as u64),
+        None => (v.lo.unsigned_abs() as u64) ^ (v.hi.unsigned_abs() as u64),
     }
 }
 
@@ -50,8 +50,8 @@ fn main(rt: HostRuntime) -> io::Result<()> {
     let mut sum: u64 = 0;
     for k in 0..%du32 {
         state = state.wrapping_mul(1_664_525).wrapping_add(1_013_904_223);
-        let size = 13_000 + (state >> 18) as i32;
-        let x = if k / 24 %% 2 == 0 { size } else { -size };
+        let size = (13_000 + (state >> 18) %% 16_384) as i32;
+        let x = if k / 24 %% 2 == 0 { size } else { 0_i32.wrapping_sub(size) };
         sum = sum.wrapping_mul(31).wrapping_add(step(&scale, &mut cutter, x));
     }
     println!(rt; "{sum}")?;

@@ -21,7 +21,7 @@ fn main() {
         let (negative, lo, hi) = scale.voltage(if k / 24 % 2 == 0 { size } else { -size }).unwrap();
         let answer = match cutter.push(negative, lo, hi) {
             Some((lo, hi)) => lo ^ hi,
-            None => (lo ^ hi) as u64,
+            None => (lo.unsigned_abs() ^ hi.unsigned_abs()) as u64,
         };
         sum = sum.wrapping_mul(31).wrapping_add(answer);
     }
